@@ -21,7 +21,7 @@ use Rattle.dcsctp_delivery_directions.proofs.Marking.{directions_deliver_for_goo
 use Rattle.dcsctp_delivery_turns.proofs.Beginnings.{fresh_at_zero}
 use Rattle.dcsctp_delivery_turns.proofs.Unbegun.{fresh_is_at_zero}
 use Rattle.dcsctp_delivery_turns.proofs.Runs.{senders_begin}
-use Rattle.dcsctp_delivery_associations.specs.Ends.{SendingEnd, direction_of_ends, new_end, Ends, MarksLeft, Awaits, chunks_before, Between, sending_side, receiving_side}
+use Rattle.dcsctp_delivery_associations.specs.Ends.{ResetCalls, SendingEnd, direction_of_ends, new_end, Ends, MarksLeft, Awaits, chunks_before, Between, sending_side, receiving_side}
 use Rattle.dcsctp_delivery_associations.specs.Laws.{AreEnds}
 use Rattle.dcsctp_delivery_associations.specs.Reads.{ReadMessage, Reading, nothing_read, with_key, messages_of}
 use Rattle.dcsctp_delivery_associations.proofs.Growing.{AllFound, set_all}
@@ -139,13 +139,13 @@ module _ (options : Options) (ends : Ends) (e : Endpoint) (queued : List Message
 
 -- ---- two sockets that were just made
 
-pub ends_begin : (never_resets : ℕ → Bool) (mine options : Options) → AreEnds never_resets [] options (sending_side (fresh_endpoint mine) [] [] []) (receiving_side (fresh_endpoint options) [] nothing_read)
-ends_begin never_resets mine options =
+pub ends_begin : (calls : ResetCalls) (mine options : Options) → AreEnds calls [] options (sending_side (fresh_endpoint mine) [] [] []) (receiving_side (fresh_endpoint options) [] nothing_read)
+ends_begin calls mine options =
     record {
-      ends = record { sends = λ tag. nothing; gets = λ tag. new_end options 0; firsts = λ tag. 0; latest = λ tag. 0; former = λ tag. None; never_resets = never_resets };
+      ends = record { sends = λ tag. nothing; gets = λ tag. new_end options 0; firsts = λ tag. 0; latest = λ tag. 0; former = λ tag. None; calls = calls };
       is = refl;
       between = record {
-        runs = λ tag. senders_begin mine options 0 options.max_receiver_window_buffer_size never_resets;
+        runs = λ tag. senders_begin mine options 0 options.max_receiver_window_buffer_size calls.never calls.asks;
         small = λ tag. omega arith;
         sender = record {
           queues_are = refl;
@@ -171,10 +171,10 @@ ends_begin never_resets mine options =
         asks = tt;
         numbered = λ tag some anew. refl;
         kept = λ tag some only id never. never;
-        dropping = λ tag id resets. resets;
+        dropping = λ tag. record { dropped = λ id resets. resets; asks = refl };
         unbegun = λ never. record { unlinked = refl; idle = refl; zero = fresh_is_at_zero mine; all = λ id never. record { waits = λ place message at. absurd (cc); unpaused = tt } };
-        receiver = record { fits = record { first = 0; asking = nothing_asked; fits = tt }; current = λ transfer there. absurd (cc); left = inl refl; last = λ link is. absurd (cc); were_read = λ tag. refl; begun = λ tag. inl refl; last_of = inl refl; reads_of = tt };
-        alone = λ tag. inr (senders_begin options options 0 options.max_receiver_window_buffer_size (λ id. false));
+        receiver = record { fits = record { first = 0; asking = nothing_asked; fits = tt }; current = λ transfer there. absurd (cc); left = inl refl; last = λ link is. absurd (cc); were_read = λ tag. refl; were_reset = λ report has. absurd has; begun = λ tag. inl refl; last_of = inl refl; reads_of = tt };
+        alone = λ tag. inr (senders_begin options options 0 options.max_receiver_window_buffer_size (λ id. false) (λ id count. false));
       };
       answered = record {
         pairs = λ tag. record { tag = 0; first_tsn = 0 };
@@ -196,7 +196,7 @@ ends_begin never_resets mine options =
     }
   where
     nothing : SendingEnd
-    nothing = record { queued = []; queues = record { queue = empty_queue mine; transfer = None }; acknowledged = 0; sent = []; asking = nothing_asked; beginning = record { from_zero = true; keeps = never_resets } }
+    nothing = record { queued = []; queues = record { queue = empty_queue mine; transfer = None }; acknowledged = 0; sent = []; asking = nothing_asked; beginning = record { from_zero = true; keeps = calls.never; asks = calls.asks } }
 
     awaits : Awaits nothing
     awaits = record { queued = refl; sent = refl; acknowledged = refl; transfer = refl; asking = refl; begun = record { zero = λ is. fresh_at_zero mine; all = λ id is. record { waits = λ place message at. absurd (cc); unpaused = tt } } }

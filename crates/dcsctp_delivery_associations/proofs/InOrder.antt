@@ -1,11 +1,11 @@
 -- What was read in one association, in the order in which it was queued.
-use Rattle.std.proofs.Common.{◌≡◌, ◌≢◌, ℕ, ◌<◌, ◌≤◌, ◌^◌, ◌+◌, Some, List, [], ◌∷◌, length, true, false, refl, sym, ◌∙◌, ap, arith, subst, inl, inr}
+use Rattle.std.proofs.Common.{◌≡◌, ◌≢◌, ℕ, zero, suc, ◌<◌, ◌≤◌, ◌^◌, ◌+◌, Some, List, [], ◌∷◌, length, true, false, refl, sym, ◌∙◌, ap, arith, subst, inl, inr}
 use Rattle.std.specs.Prelude.{◌⊎◌, Bool}
 use Rattle.dcsctp_spec_lemmas.specs.types.declared.options.Options.{Options}
 use Rattle.dcsctp_spec_lemmas.specs.types.queues.Messages.{MessageContent}
 use Rattle.dcsctp_spec_lemmas.specs.spec.endpoint.Endpoint.{Endpoint}
 use Rattle.dcsctp_spec_lemmas.specs.spec.Packet.{Emission}
-use Rattle.dcsctp_spec_lemmas.specs.spec.association.Effect.{AssociationIdentity, Effect, identity_of_core}
+use Rattle.dcsctp_spec_lemmas.specs.spec.association.Effect.{AssociationIdentity, Effect}
 use Rattle.dcsctp_spec_lemmas.specs.spec.queues.Reassembly.{ReassemblyState}
 use Rattle.dcsctp_spec_lemmas.specs.spec.queues.Transfer.{EndpointQueues}
 use Rattle.dcsctp_delivery_sending.specs.Places.{HasEntry, at_place}
@@ -16,14 +16,14 @@ use Rattle.dcsctp_delivery_sending.proofs.HeldOn.{unlimited_on_at}
 use Rattle.dcsctp_delivery_receiving.specs.Ready.{WereQueued}
 use Rattle.dcsctp_delivery_directions.proofs.ChunkCounts.{few_for_chunks}
 use Rattle.dcsctp_delivery_directions.proofs.Directions.{directions_deliver}
-use Rattle.dcsctp_delivery_directions.specs.Directions.{Direction, assigned_count}
+use Rattle.dcsctp_delivery_directions.specs.Directions.{PerformedReset, Asking, Direction, assigned_count}
 use Rattle.dcsctp_delivery_directions.specs.Requests.{requests_to}
 use Rattle.dcsctp_delivery_directions.proofs.RequestCounts.{requests_are_sent}
 use Rattle.dcsctp_delivery_directions.proofs.Forwards.{unlimited_forward_nothing}
 use Rattle.dcsctp_delivery_sending.specs.Losing.{AreUnlimited, AreUnlimitedOn}
 use Rattle.dcsctp_spec_lemmas.proofs.MarkedItemLemmas.{le_or_lt}
 use Rattle.dcsctp_delivery_order.specs.Delivered.{AreDeliveredInOrder, AreDeliveredWithoutGaps}
-use Rattle.dcsctp_delivery_order.specs.Queue.{IsOrderedOn, ComeInOrder, LeaveNoGap}
+use Rattle.dcsctp_delivery_order.specs.Queue.{IsOrderedOn, ComeInOrder, LeaveNoGap, Separates}
 use Rattle.dcsctp_delivery_order.specs.Streams.{AreDeliveredByStream, AreDeliveredOnStreams}
 use Rattle.dcsctp_delivery_order.specs.Complete.{HasNothingLeft, AreAllDelivered}
 use Rattle.dcsctp_delivery_order.proofs.PlainComplete.{plain_streams_arrive}
@@ -32,6 +32,8 @@ use Rattle.dcsctp_delivery_order.proofs.PlainDirections.{plain_directions_delive
 use Rattle.dcsctp_delivery_order.proofs.StreamDirections.{streams_deliver_without_gaps, directions_deliver_without_gaps}
 use Rattle.dcsctp_delivery_order.proofs.FewDirections.{plain_few_deliver_in_order}
 use Rattle.dcsctp_delivery_order.specs.PlainDirections.{FewOnEachStream}
+use Rattle.dcsctp_delivery_epochs.specs.Asked.{AreCutAsAsked}
+use Rattle.dcsctp_delivery_epochs.proofs.CutsAsked.{none_performed, directions_cut_as_asked}
 use Rattle.dcsctp_delivery_associations.proofs.FewMarks.{few_marks}
 use Rattle.dcsctp_delivery_order.proofs.PlainFront.{plain_streams_deliver_without_gaps, plain_directions_deliver_without_gaps}
 use Rattle.dcsctp_delivery_associations.specs.Ends.{ReceivingEnd, direction_of_ends, Ends, sender_key, HadKind, IsOnlyOwn, NumbersFromZero, Awaits, chunks_before, IsCurrentEnd, Between, sending_side, receiving_side}
@@ -82,6 +84,33 @@ in_order_unmarked marks queued contents found d =
     record {
       delivered = record { places = d.delivered.places; were_queued = were_unmarked marks queued d.delivered.places contents found d.delivered.were_queued; once = d.delivered.once };
       in_order = λ id. order_unmarked marks queued id d.delivered.places contents found d.delivered.were_queued (d.in_order id);
+    }
+
+-- Where a reset separates what was queued, it separates what is marked.
+separate_unmarked : (marks queued : List Message) (id index bound : ℕ) (places : List ℕ) (contents : List MessageContent) → AllFound marks queued → WereQueued marks places contents → Separates marks id index bound places → Separates queued id index bound places
+separate_unmarked marks queued id index bound [] contents found were apart = tt
+separate_unmarked marks queued id index bound (place ∷ places) [] found were apart = absurd were
+separate_unmarked marks queued id zero bound (place ∷ places) (content ∷ contents) found were apart = (
+  λ on. apart.0 (is_ordered marks queued id place found (record { mark = were.0.message; at = were.0.at }) on),
+  separate_unmarked marks queued id zero bound places contents found were.1 apart.1,
+)
+separate_unmarked marks queued id (suc index) bound (place ∷ places) (content ∷ contents) found were apart = (
+  λ on. apart.0 (is_ordered marks queued id place found (record { mark = were.0.message; at = were.0.at }) on),
+  separate_unmarked marks queued id index bound places contents found were.1 apart.1,
+)
+
+cut_unmarked : (asks : ℕ → ℕ → Bool) (performed : List PerformedReset) (marks queued : List Message) (contents : List MessageContent) → AllFound marks queued → AreCutAsAsked asks performed marks contents → AreCutAsAsked asks performed queued contents
+cut_unmarked asks performed marks queued contents found d =
+    record {
+      ordered = in_order_unmarked marks queued contents found d.ordered;
+      cut = λ id reset has names. (
+          let c = d.cut id reset has names in
+          record {
+            place = c.place;
+            asked = c.asked;
+            separates = separate_unmarked marks queued id reset.index c.place d.ordered.delivered.places contents found d.ordered.delivered.were_queued c.separates;
+          }
+          );
     }
 
 below_other : (place size : ℕ) → place < size + 1 → place ≢ size → place < size
@@ -213,7 +242,7 @@ module _ (options : Options) (ends : Ends) (e : Endpoint) (queued : List Message
 
     -- Nothing is read under the tag 0.
     none_at_zero : tag ≡ 0 → with_key tag reading.reads ≡ []
-    none_at_zero zero = elim (h.receiver.begun tag) [ inl new ↦ h.receiver.were_read tag ∙ ap (λ (g : ReceivingEnd). g.read) new | inr had ↦ absurd (had.some zero) ]
+    none_at_zero nought = elim (h.receiver.begun tag) [ inl new ↦ h.receiver.were_read tag ∙ ap (λ (g : ReceivingEnd). g.read) new | inr had ↦ absurd (had.some nought) ]
 
     -- Nothing is read where the sender hasn't begun.
     none_awaited : Awaits (ends.sends tag) → with_key tag reading.reads ≡ []
@@ -236,7 +265,7 @@ module _ (options : Options) (ends : Ends) (e : Endpoint) (queued : List Message
 
     -- Either nothing was read under the tag, or the sender had an association of it.
     by_begun : {P : Type 0} → (with_key tag reading.reads ≡ [] → P) → (tag ≢ 0 → HadKind past tag (ends.sends tag).queues.queue.is_interleaved → P) → P
-    by_begun none had = elim (decide tag 0) [ inl zero ↦ none (none_at_zero zero) | inr some ↦ elim (h.sender.kinds tag some) [ inl waits ↦ none (none_awaited waits) | inr kind ↦ had some kind ] ]
+    by_begun none had = elim (decide tag 0) [ inl nought ↦ none (none_at_zero nought) | inr some ↦ elim (h.sender.kinds tag some) [ inl waits ↦ none (none_awaited waits) | inr kind ↦ had some kind ] ]
 
   pub ends_deliver_in_order : (tag : ℕ) → NumbersFromZero e past tag → InterleavesUnder past tag → AreDeliveredInOrder queued (with_key tag reading.reads)
   ends_deliver_in_order tag anew interleaves =
@@ -245,10 +274,37 @@ module _ (options : Options) (ends : Ends) (e : Endpoint) (queued : List Message
       (directions_deliver_in_order options (ends.firsts tag) options.max_receiver_window_buffer_size (own tag) (h.runs tag) (h.small tag) (little tag) (short tag)
       (sym (had.kind_is interleaves.0 interleaves.1 interleaves.2) ∙ interleaves.3) (h.numbered tag some anew)))
 
-  pub ends_deliver_by_stream : (tag : ℕ) → IsOnlyOwn past tag → InterleavesUnder past tag → AreDeliveredByStream ends.never_resets queued (with_key tag reading.reads)
+  -- Under the tag 0 no reset is performed, and none where the sender hasn't begun.
+  nothing_performed : (tag : ℕ) → (tag ≡ 0) ⊎ Awaits (ends.sends tag) → (ends.gets tag).performed ≡ []
+  nothing_performed tag (inl nought) = elim (h.receiver.begun tag) [ inl new ↦ ap (λ (g : ReceivingEnd). g.performed) new | inr had ↦ absurd (had.some nought) ]
+  nothing_performed tag (inr waits) = none_performed options (ends.firsts tag) options.max_receiver_window_buffer_size (own tag) (h.runs tag) (ap (λ (a : Asking). a.requests) waits.asking)
+
+  pub ends_cut_as_asked : (tag : ℕ) → NumbersFromZero e past tag → InterleavesUnder past tag → AreCutAsAsked ends.calls.asks (ends.gets tag).performed queued (with_key tag reading.reads)
+  ends_cut_as_asked tag anew interleaves =
+      elim (decide tag 0) [
+        | inl nought ↦ uncut (none_at_zero tag nought) (nothing_performed tag (inl nought))
+        | inr some ↦ elim (h.sender.kinds tag some) [
+          | inl waits ↦ uncut (none_awaited tag waits) (nothing_performed tag (inr waits))
+          | inr had ↦
+              cut_unmarked ends.calls.asks (ends.gets tag).performed (ends.sends tag).queued queued (with_key tag reading.reads) (h.sender.marks tag)
+              (subst (AreCutAsAsked ends.calls.asks (ends.gets tag).performed (ends.sends tag).queued) (sym (h.receiver.were_read tag))
+              (subst (λ (asks : ℕ → ℕ → Bool). AreCutAsAsked asks (ends.gets tag).performed (ends.sends tag).queued (ends.gets tag).read) (h.dropping tag).asks
+              (directions_cut_as_asked options (ends.firsts tag) options.max_receiver_window_buffer_size (own tag) (h.runs tag) (h.small tag) (little tag) (short tag)
+              (sym (had.kind_is interleaves.0 interleaves.1 interleaves.2) ∙ interleaves.3) (h.numbered tag some anew))))
+        ]
+      ]
+    where
+      uncut : with_key tag reading.reads ≡ [] → (ends.gets tag).performed ≡ [] → AreCutAsAsked ends.calls.asks (ends.gets tag).performed queued (with_key tag reading.reads)
+      uncut none none' =
+          record {
+            ordered = nothing_in_order queued (with_key tag reading.reads) none;
+            cut = λ id reset has. absurd (subst (HasEntry reset) none' has);
+          }
+
+  pub ends_deliver_by_stream : (tag : ℕ) → IsOnlyOwn past tag → InterleavesUnder past tag → AreDeliveredByStream ends.calls.never queued (with_key tag reading.reads)
   ends_deliver_by_stream tag only interleaves =
-      by_begun tag (nothing_by_stream ends.never_resets queued (with_key tag reading.reads))
-      (λ some had. by_stream_unmarked (ends.sends tag).beginning.keeps ends.never_resets (ends.sends tag).queued queued (with_key tag reading.reads) (h.sender.marks tag) (h.kept tag some only)
+      by_begun tag (nothing_by_stream ends.calls.never queued (with_key tag reading.reads))
+      (λ some had. by_stream_unmarked (ends.sends tag).beginning.keeps ends.calls.never (ends.sends tag).queued queued (with_key tag reading.reads) (h.sender.marks tag) (h.kept tag some only)
       (subst (AreDeliveredByStream (ends.sends tag).beginning.keeps (ends.sends tag).queued) (sym (h.receiver.were_read tag))
       (streams_deliver_without_gaps options (ends.firsts tag) options.max_receiver_window_buffer_size (own tag) (h.runs tag) (h.small tag) (little tag) (short tag)
       (sym (had.kind_is interleaves.0 interleaves.1 interleaves.2) ∙ interleaves.3) (h.numbered tag some (inr only)))))
@@ -277,7 +333,7 @@ module _ (options : Options) (ends : Ends) (e : Endpoint) (queued : List Message
         (λ some had. in_order_so tag (own_data tag (ends.sends tag).queues.queue.is_interleaved refl (h.numbered tag some anew) (unasked tag none) which))
 
     -- Either way of numbering leaves no gap on a stream that is kept and has no limits.
-    module _ (these : ℕ → Bool) (reliable : (id : ℕ) → these id ≡ true → IsReliableKept ends.never_resets queued id) where
+    module _ (these : ℕ → Bool) (reliable : (id : ℕ) → these id ≡ true → IsReliableKept ends.calls.never queued id) where
       own_on : (tag : ℕ) → tag ≢ 0 → IsOnlyOwn past tag → (kind : Bool) → (ends.sends tag).queues.queue.is_interleaved ≡ kind → AreDeliveredOnStreams these (ends.sends tag).queued (ends.gets tag).read
       own_on tag some only true is =
           let d = streams_deliver_without_gaps options (ends.firsts tag) options.max_receiver_window_buffer_size (own tag) (h.runs tag) (h.small tag) (little tag) (short tag) is (h.numbered tag some (inr only)) in
@@ -331,7 +387,7 @@ module _ (options : Options) (ends : Ends) (e : Endpoint) (queued : List Message
               (subst HasNothingLeft (sym queues_are) through.left) ready))
 
     -- Either way of numbering leaves no gap.
-    own_front : AreUnlimited queued → (tag : ℕ) → tag ≢ 0 → ((id : ℕ) → ends.never_resets id ≡ true) → IsOnlyOwn past tag → (kind : Bool) → (ends.sends tag).queues.queue.is_interleaved ≡ kind
+    own_front : AreUnlimited queued → (tag : ℕ) → tag ≢ 0 → ((id : ℕ) → ends.calls.never id ≡ true) → IsOnlyOwn past tag → (kind : Bool) → (ends.sends tag).queues.queue.is_interleaved ≡ kind
         → AreDeliveredWithoutGaps (ends.sends tag).queued (ends.gets tag).read
     own_front are tag some never only true is =
         directions_deliver_without_gaps options (ends.firsts tag) options.max_receiver_window_buffer_size (own tag) (h.runs tag) (h.small tag) (little tag) (short tag) is
@@ -340,7 +396,7 @@ module _ (options : Options) (ends : Ends) (e : Endpoint) (queued : List Message
         plain_directions_deliver_without_gaps options (ends.firsts tag) options.max_receiver_window_buffer_size (own tag) (h.runs tag) (h.small tag) (little tag) (short tag) room is
         (h.numbered tag some (inr only)) (λ id. h.kept tag some only id (never id)) (unlimited are tag)
 
-    pub ends_deliver_without_gaps : AreUnlimited queued → ((id : ℕ) → ends.never_resets id ≡ true) → (tag : ℕ) → IsOnlyOwn past tag → AreDeliveredWithoutGaps queued (with_key tag reading.reads)
+    pub ends_deliver_without_gaps : AreUnlimited queued → ((id : ℕ) → ends.calls.never id ≡ true) → (tag : ℕ) → IsOnlyOwn past tag → AreDeliveredWithoutGaps queued (with_key tag reading.reads)
     ends_deliver_without_gaps are never tag only =
         by_begun tag (nothing_before queued (with_key tag reading.reads))
         (λ some had. front_so tag (own_front are tag some never only (ends.sends tag).queues.queue.is_interleaved refl))

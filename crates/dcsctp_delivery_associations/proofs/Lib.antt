@@ -35,3 +35,4 @@ pub mod FewMarks
 pub mod InOrder
 pub mod Tagged
 pub mod Moved
+pub mod WhatIsReset

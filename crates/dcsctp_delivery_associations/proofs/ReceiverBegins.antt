@@ -8,7 +8,7 @@ use Rattle.dcsctp_spec_lemmas.specs.spec.endpoint.Endpoint.{Endpoint}
 use Rattle.dcsctp_spec_lemmas.specs.spec.endpoint.Event.{Event, packets_of_events}
 use Rattle.dcsctp_spec_lemmas.specs.spec.endpoint.Outcome.{Outcome}
 use Rattle.dcsctp_spec_lemmas.specs.spec.Packet.{Emission}
-use Rattle.dcsctp_spec_runs.specs.Past.{HasEffect}
+use Rattle.dcsctp_spec_runs.specs.Past.{HasEffect, WasPerformed}
 use Rattle.dcsctp_spec_lemmas.specs.spec.endpoint.Turn.{Input, Turn}
 use Rattle.dcsctp_spec_runs.specs.World.{after_effects}
 use Rattle.dcsctp_spec_lemmas.specs.spec.association.Effect.{AssociationIdentity, Effect, holds, identity_of, identity_of_core}
@@ -16,7 +16,7 @@ use Rattle.dcsctp_spec_lemmas.specs.spec.queues.Reassembly.{new_reassembly}
 use Rattle.dcsctp_spec_lemmas.specs.spec.queues.Tracker.{new_tracker}
 use Rattle.dcsctp_spec_lemmas.specs.spec.queues.Transfer.{Transfer, EndpointQueues, part_overhead}
 use Rattle.dcsctp_theorem_association.proofs.Growth.{after_within}
-use Rattle.dcsctp_delivery_sending.specs.Places.{table_with}
+use Rattle.dcsctp_delivery_sending.specs.Places.{HasEntry, table_with}
 use Rattle.dcsctp_delivery_sending.specs.Log.{Message}
 use Rattle.dcsctp_delivery_sending.proofs.Places.{decide, set_same, set_other}
 use Rattle.dcsctp_delivery_directions.specs.Directions as steps
@@ -28,17 +28,18 @@ use Rattle.dcsctp_delivery_turns.specs.Reporting.{IsReachedBetween, TurnReports,
 use Rattle.dcsctp_delivery_turns.specs.Asking.{own_of, AsksFit}
 use Rattle.dcsctp_delivery_turns.specs.Runs.{OpensAssociation}
 use Rattle.dcsctp_delivery_associations.specs.Ends.{SendingEnd, ReceivingEnd, direction_of_ends, new_end, Ends, sender_key, HadPeer, Awaits, Sender, NewTag, HadTag, Receiver, unbegun_end, MetOrAlone, AreHeard, AreSeen, Between, sending_side, receiving_side}
-use Rattle.dcsctp_delivery_associations.specs.Reads.{Tags, tags_of, Reading, tags_or, with_key}
+use Rattle.dcsctp_delivery_associations.specs.Reads.{Tags, tags_of, Reading, tags_or, reached_index, resets_after, with_key}
 use Rattle.dcsctp_delivery_associations.proofs.Growing.{set_all}
 use Rattle.dcsctp_delivery_associations.proofs.Growing.{set_three}
 use Rattle.dcsctp_delivery_associations.proofs.Heard.{same_grown, heard_later, heard_all, heard_there, heard_nothing, passed_reached}
 use Rattle.dcsctp_delivery_associations.proofs.Seen.{seen_turn}
 use Rattle.dcsctp_delivery_associations.proofs.Senders.{alone_later}
-use Rattle.dcsctp_delivery_associations.proofs.WhatIsRead.{all_of_later}
+use Rattle.dcsctp_delivery_associations.proofs.WhatIsRead.{all_of_later, of_link_later}
 use Rattle.dcsctp_delivery_turns.proofs.Runs.{senders_begin}
 use Rattle.dcsctp_delivery_associations.proofs.WhatIsLeft.{goes_left}
 use Rattle.dcsctp_delivery_associations.specs.Answered.{AreAnswered}
-use Rattle.dcsctp_delivery_associations.specs.Laws.{AreEnds}
+use Rattle.dcsctp_delivery_associations.specs.Laws.{TellsPerformed, AreEnds}
+use Rattle.dcsctp_delivery_associations.proofs.WhatIsReset.{still_reported, reset_stays}
 use Rattle.dcsctp_delivery_turns.proofs.PeersTurns.{calm_asks_nothing}
 use Rattle.dcsctp_delivery_associations.proofs.AnsweringRests.{none_performed}
 use Rattle.dcsctp_delivery_associations.proofs.ReceiverOpens.{opening_calm, opens_answered}
@@ -46,9 +47,9 @@ use Rattle.dcsctp_delivery_associations.proofs.ReceiverStays.{tag_later, sender_
 
 -- What an association has received that just begins.
 begun_end : (options other : Options) (first : ℕ) → SameOptions options other
-    → ◌≡◌ {A = ReceivingEnd} (record { first_tsn = first; tracker = new_tracker other first; reassembly = new_reassembly other.max_receiver_window_buffer_size (part_overhead other); read = [] }) (new_end options first)
+    → ◌≡◌ {A = ReceivingEnd} (record { first_tsn = first; tracker = new_tracker other first; reassembly = new_reassembly other.max_receiver_window_buffer_size (part_overhead other); read = []; performed = [] }) (new_end options first)
 begun_end options other first same =
-    ap (λ (o : Options). record { first_tsn = first; tracker = new_tracker o first; reassembly = new_reassembly o.max_receiver_window_buffer_size (part_overhead o); read = [] }) same
+    ap (λ (o : Options). record { first_tsn = first; tracker = new_tracker o first; reassembly = new_reassembly o.max_receiver_window_buffer_size (part_overhead o); read = []; performed = [] }) same
 
 -- At the sender there is the matching association, or none yet.
 data Known (ends : Ends) (key : ℕ) (new : AssociationIdentity) : Type 0 where
@@ -69,7 +70,7 @@ known ends key to below queued past their_past packets new s is =
     of_had had = sym had.first_is ∙ ap (λ (p : Pair). p.first_tsn) (is.match had.link had.held had.tag_is)
 
 module _ (options : Options) (ends : Ends) (e : Endpoint) (queued : List Message) (past : List Effect) (packets : List Emission) (d : Endpoint) (their_past : List Effect) (reading : Reading)
-    (h : Between options ends (sending_side e queued past packets) (receiving_side d their_past reading)) (few : length queued < 2 ^ 64) (same : SameOptions options d.options) (input : Input) (o : Outcome) (w : AreAnswered ends e past d their_past) (may : IsCall input) (turn : Turn d input o) (seen : List (Event Emission)) (reported : AreSeen ends d their_past seen) (reports : TurnReports d input o) (tells : ReportsResets d input o) where
+    (h : Between options ends (sending_side e queued past packets) (receiving_side d their_past reading)) (few : length queued < 2 ^ 64) (same : SameOptions options d.options) (input : Input) (o : Outcome) (w : AreAnswered ends e past d their_past) (may : IsCall input) (turn : Turn d input o) (seen : List (Event Emission)) (reported : AreSeen ends d their_past seen) (reports : TurnReports d input o) (tells : ReportsResets d input o) (shows : TellsPerformed o) where
   module _ (opens : OpensAssociation d input o) (is : NewTag their_past past (identity_of opens.begun.my opens.begun.held)) where
     abbrev tag : ℕ
     tag = opens.begun.held.peer.tag
@@ -78,7 +79,7 @@ module _ (options : Options) (ends : Ends) (e : Endpoint) (queued : List Message
     first = opens.begun.held.peer.first_tsn
 
     abbrev got : ReceivingEnd
-    got = record { first_tsn = first; tracker = opens.left.tracker; reassembly = opens.left.reassembly; read = [] }
+    got = record { first_tsn = first; tracker = opens.left.tracker; reassembly = opens.left.reassembly; read = []; performed = [] }
 
     new_held : HasEffect (holds (identity_of opens.begun.my opens.begun.held)) (after_effects o.effects their_past)
     new_held =
@@ -112,14 +113,18 @@ module _ (options : Options) (ends : Ends) (e : Endpoint) (queued : List Message
           | inl e' ↦ subst (MetOrAlone options (record ends { sends = ends.sends; gets = table_with tag got ends.gets; firsts = firsts }) past (after_effects o.effects their_past)) (sym e')
               (inr (subst (λ (n : ℕ). DirectionRun options n options.max_receiver_window_buffer_size (direction_of_ends (unbegun_end options) (table_with tag got ends.gets tag))) (sym here)
               (subst (λ (g : ReceivingEnd). DirectionRun options first options.max_receiver_window_buffer_size (direction_of_ends (unbegun_end options) g)) (sym (set_same tag got ends.gets))
-              (opened_by (unbegun_end options) (senders_begin options options first options.max_receiver_window_buffer_size (λ id. false))))))
+              (opened_by (unbegun_end options) (senders_begin options options first options.max_receiver_window_buffer_size (λ id. false) (λ id count. false))))))
           | inr ne ↦
               alone_later options ends (record ends { sends = ends.sends; gets = table_with tag got ends.gets; firsts = firsts }) past past their_past (after_effects o.effects their_past) (λ effect has. has) (after_within o.effects their_past) t
               (set_other tag t got ends.gets ne) (others t ne) (h.alone t)
         ]
 
+    -- No request is performed.
+    none_here : (my : Pair) (number : ℕ) → WasPerformed my number o.effects → ⊥
+    none_here my number has = none_performed o.effects (calm_asks_nothing d input o (opening_calm (content_of_input input) opens.opening) may turn) my number has
+
     later_receiver : (firsts : ℕ → ℕ) → firsts tag ≡ first → ((t : ℕ) → t ≢ tag → firsts t ≡ ends.firsts t) → ends.gets tag ≡ new_end options (ends.firsts tag)
-        → Receiver options (record ends { sends = ends.sends; gets = table_with tag got ends.gets; firsts = firsts }) o.after (after_effects o.effects their_past) (record { reads = reading.reads; last = tags_of (identity_of opens.begun.my opens.begun.held) })
+        → Receiver options (record ends { sends = ends.sends; gets = table_with tag got ends.gets; firsts = firsts }) o.after (after_effects o.effects their_past) (record { reads = reading.reads; last = tags_of (identity_of opens.begun.my opens.begun.held); resets = resets_after d input o reading })
     later_receiver firsts here others fresh =
         record {
           fits = opens.fits;
@@ -138,6 +143,11 @@ module _ (options : Options) (ends : Ends) (e : Endpoint) (queued : List Message
           last = λ link is'. own_tag link is';
           left = goes_left d input o may turn ends.gets (table_with tag got ends.gets) reading.last.peer tag opens.left opens.is h.receiver.left;
           were_read = set_all (λ t g. with_key t reading.reads ≡ g.read) tag got ends.gets (h.receiver.were_read tag ∙ ap (λ (g : ReceivingEnd). g.read) fresh) (λ t ne. h.receiver.were_read t);
+          were_reset = λ report has.
+              reset_stays ends.gets (table_with tag got ends.gets) their_past (after_effects o.effects their_past) report
+              (set_all (λ t g. HasEntry report.reset (ends.gets t).performed → HasEntry report.reset g.performed) tag got ends.gets
+              (λ was. absurd (subst (λ (g : ReceivingEnd). HasEntry report.reset g.performed) fresh was)) (λ t ne was. was)) (of_link_later o.effects their_past report.tags)
+              (h.receiver.were_reset report (still_reported reading.last (reached_index d input o reading) reading.resets report o shows none_here has));
           begun = λ t. elim (decide t tag) [
             | inl e' ↦ inr (subst (λ (n : ℕ). HadTag (after_effects o.effects their_past) n (firsts n)) (sym e') (subst (λ (n : ℕ). HadTag (after_effects o.effects their_past) tag n) (sym here) had_new))
             | inr ne ↦ other t ne (h.receiver.begun t)
@@ -203,9 +213,9 @@ module _ (options : Options) (ends : Ends) (e : Endpoint) (queued : List Message
     seen_opened : (firsts : ℕ → ℕ) → AreSeen (record ends { sends = ends.sends; gets = table_with tag got ends.gets; firsts = firsts }) o.after (after_effects o.effects their_past) (seen ++ o.events)
     seen_opened firsts =
         seen_turn ends (record ends { sends = ends.sends; gets = table_with tag got ends.gets; firsts = firsts }) e past d their_past seen input o w (λ t some begun has. has) heard_opened tells
-        (λ my number has. absurd (none_performed o.effects (calm_asks_nothing d input o (opening_calm (content_of_input input) opens.opening) may turn) my number has)) reported
+        (λ my number has. absurd (none_here my number has)) reported
 
-    crossed_opens : ends.firsts tag ≡ first → ends.gets tag ≡ new_end options (ends.firsts tag) → AreEnds ends.never_resets (seen ++ o.events) options (sending_side e queued past packets) (receiving_side o.after (after_effects o.effects their_past) (record { reads = reading.reads; last = tags_of (identity_of opens.begun.my opens.begun.held) }))
+    crossed_opens : ends.firsts tag ≡ first → ends.gets tag ≡ new_end options (ends.firsts tag) → AreEnds ends.calls (seen ++ o.events) options (sending_side e queued past packets) (receiving_side o.after (after_effects o.effects their_past) (record { reads = reading.reads; last = tags_of (identity_of opens.begun.my opens.begun.held); resets = resets_after d input o reading }))
     crossed_opens here fresh =
         let end : ends.gets tag ≡ new_end options first = fresh ∙ ap (new_end options) here in
         let start : DirectionRun options first options.max_receiver_window_buffer_size (direction_of_ends (ends.sends tag) (new_end options first)) =
@@ -233,7 +243,7 @@ module _ (options : Options) (ends : Ends) (e : Endpoint) (queued : List Message
           reported = seen_opened ends.firsts;
         }
 
-    awaited_opens : Awaits (ends.sends tag) → tag ≢ sender_key e.core → ends.gets tag ≡ new_end options (ends.firsts tag) → AreEnds ends.never_resets (seen ++ o.events) options (sending_side e queued past packets) (receiving_side o.after (after_effects o.effects their_past) (record { reads = reading.reads; last = tags_of (identity_of opens.begun.my opens.begun.held) }))
+    awaited_opens : Awaits (ends.sends tag) → tag ≢ sender_key e.core → ends.gets tag ≡ new_end options (ends.firsts tag) → AreEnds ends.calls (seen ++ o.events) options (sending_side e queued past packets) (receiving_side o.after (after_effects o.effects their_past) (record { reads = reading.reads; last = tags_of (identity_of opens.begun.my opens.begun.held); resets = resets_after d input o reading }))
     awaited_opens waits apart fresh =
         let queues = direction_queues options (ends.firsts tag) options.max_receiver_window_buffer_size (direction_of_ends (ends.sends tag) (ends.gets tag)) (h.runs tag) (h.small tag)
         (let short = h.sender.short tag in omega (arith, few, short)) in
@@ -249,6 +259,7 @@ module _ (options : Options) (ends : Ends) (e : Endpoint) (queued : List Message
           tracker = refl;
           reassembly = refl;
           read = refl;
+          performed = refl;
           asking = waits.asking;
           begun = waits.begun;
         }) in
@@ -274,17 +285,17 @@ module _ (options : Options) (ends : Ends) (e : Endpoint) (queued : List Message
           reported = seen_opened (table_with tag first ends.firsts);
         }
 
-    opens_last : AreEnds ends.never_resets (seen ++ o.events) options (sending_side e queued past packets) (receiving_side o.after (after_effects o.effects their_past) (record { reads = reading.reads; last = tags_of (identity_of opens.begun.my opens.begun.held) }))
+    opens_last : AreEnds ends.calls (seen ++ o.events) options (sending_side e queued past packets) (receiving_side o.after (after_effects o.effects their_past) (record { reads = reading.reads; last = tags_of (identity_of opens.begun.my opens.begun.held); resets = resets_after d input o reading }))
     opens_last =
         elim (h.receiver.begun tag) [
           | inl fresh ↦ go fresh (known ends (sender_key e.core) (peer_tag e.core) e.queues queued past their_past packets (identity_of opens.begun.my opens.begun.held) h.sender is)
           | inr had ↦ absurd (is.other had.link had.held had.tag_is)
         ]
       where
-        go : ends.gets tag ≡ new_end options (ends.firsts tag) → Known ends (sender_key e.core) (identity_of opens.begun.my opens.begun.held) → AreEnds ends.never_resets (seen ++ o.events) options (sending_side e queued past packets) (receiving_side o.after (after_effects o.effects their_past) (record { reads = reading.reads; last = tags_of (identity_of opens.begun.my opens.begun.held) }))
+        go : ends.gets tag ≡ new_end options (ends.firsts tag) → Known ends (sender_key e.core) (identity_of opens.begun.my opens.begun.held) → AreEnds ends.calls (seen ++ o.events) options (sending_side e queued past packets) (receiving_side o.after (after_effects o.effects their_past) (record { reads = reading.reads; last = tags_of (identity_of opens.begun.my opens.begun.held); resets = resets_after d input o reading }))
         go fresh (is_crossed here) = crossed_opens here fresh
         go fresh (is_awaited waits apart) = awaited_opens waits apart fresh
 
-    pub opens_goes : AreEnds ends.never_resets (seen ++ o.events) options (sending_side e queued past packets) (receiving_side o.after (after_effects o.effects their_past) (record { reads = reading.reads; last = tags_or reading.last (identity_of_core o.after.core) }))
+    pub opens_goes : AreEnds ends.calls (seen ++ o.events) options (sending_side e queued past packets) (receiving_side o.after (after_effects o.effects their_past) (record { reads = reading.reads; last = tags_or reading.last (identity_of_core o.after.core); resets = resets_after d input o reading }))
     opens_goes =
-        subst (λ (n : Tags). AreEnds ends.never_resets (seen ++ o.events) options (sending_side e queued past packets) (receiving_side o.after (after_effects o.effects their_past) (record { reads = reading.reads; last = n }))) (sym (ap (tags_or reading.last) opens.linked)) opens_last
+        subst (λ (n : Tags). AreEnds ends.calls (seen ++ o.events) options (sending_side e queued past packets) (receiving_side o.after (after_effects o.effects their_past) (record { reads = reading.reads; last = n; resets = resets_after d input o reading }))) (sym (ap (tags_or reading.last) opens.linked)) opens_last

@@ -14,7 +14,7 @@ use Rattle.dcsctp_spec_lemmas.specs.spec.association.Effect.{AssociationIdentity
 use Rattle.dcsctp_spec_lemmas.specs.types.queues.Messages.{MessageContent}
 use Rattle.dcsctp_spec_lemmas.specs.spec.queues.Reassembly.{with_ready}
 use Rattle.dcsctp_spec_lemmas.specs.spec.queues.Transfer.{Transfer}
-use Rattle.dcsctp_delivery_sending.specs.Places.{table_with}
+use Rattle.dcsctp_delivery_sending.specs.Places.{HasEntry, table_with}
 use Rattle.dcsctp_delivery_sending.specs.Log.{Message}
 use Rattle.dcsctp_delivery_sending.proofs.Places.{decide, set_same, set_other}
 use Rattle.dcsctp_spec_laws.specs.LeftLaws.{without_first_message, left_once}
@@ -28,11 +28,12 @@ use Rattle.dcsctp_spec_runs.specs.Past.{WasPerformed}
 use Rattle.dcsctp_delivery_turns.specs.Actions.{peer_tag, IsCall}
 use Rattle.dcsctp_delivery_turns.specs.Asking.{own_of, SomeFit}
 use Rattle.dcsctp_delivery_associations.specs.Ends.{ReceivingEnd, direction_of_ends, new_end, Ends, sender_key, HadTag, LeavesReady, unbegun_end, MetOrAlone, AreHeard, AreSeen, Between, sending_side, receiving_side}
-use Rattle.dcsctp_delivery_associations.specs.Reads.{Tags, ReadMessage, Reading, tags_or, reading_after, tagged_after, and_first, with_key}
+use Rattle.dcsctp_delivery_associations.specs.Reads.{Tags, ReadMessage, Reading, tags_or, reached_index, resets_after, reading_after, tagged_after, and_first, with_key}
 use Rattle.dcsctp_delivery_associations.proofs.WhatIsLeft.{left_idle, left_taken}
 use Rattle.dcsctp_delivery_associations.proofs.WhatIsRead.{all_of_first, all_of_later, of_link_later, MayRead, reads_first, reads_none, may_read, first_own, first_other}
 use Rattle.dcsctp_delivery_associations.proofs.Growing.{set_all}
-use Rattle.dcsctp_delivery_associations.specs.Laws.{AreEnds}
+use Rattle.dcsctp_delivery_associations.specs.Laws.{TellsPerformed, AreEnds}
+use Rattle.dcsctp_delivery_associations.proofs.WhatIsReset.{still_reported, reset_stays}
 use Rattle.dcsctp_theorem_association.proofs.Growth.{after_within}
 use Rattle.dcsctp_delivery_associations.proofs.Heard.{HasGrown, not_grown, heard_later, heard_all, heard_nothing, heard_nowhere}
 use Rattle.dcsctp_delivery_associations.proofs.Seen.{seen_turn}
@@ -42,21 +43,21 @@ use Rattle.dcsctp_delivery_associations.proofs.Senders.{no_peer, alone_later, me
 use Rattle.dcsctp_delivery_associations.proofs.ReceiverStays.{tag_later, begun_later, sender_same}
 
 module _ (options : Options) (ends : Ends) (e : Endpoint) (queued : List Message) (past : List Effect) (packets : List Emission) (d : Endpoint) (their_past : List Effect) (reading : Reading)
-    (h : Between options ends (sending_side e queued past packets) (receiving_side d their_past reading)) (input : Input) (o : Outcome) (w : AreAnswered ends e past d their_past) (may : IsCall input) (turn : Turn d input o) (seen : List (Event Emission)) (reported : AreSeen ends d their_past seen) (reports : TurnReports d input o) (tells : ReportsResets d input o) where
+    (h : Between options ends (sending_side e queued past packets) (receiving_side d their_past reading)) (input : Input) (o : Outcome) (w : AreAnswered ends e past d their_past) (may : IsCall input) (turn : Turn d input o) (seen : List (Event Emission)) (reported : AreSeen ends d their_past seen) (reports : TurnReports d input o) (tells : ReportsResets d input o) (shows : TellsPerformed o) where
   -- what is to be shown of the turn
   abbrev Turned : Type 0
-  Turned = AreEnds ends.never_resets (seen ++ o.events) options (sending_side e queued past packets) (receiving_side o.after (after_effects o.effects their_past) (reading_after d input o.after reading))
+  Turned = AreEnds ends.calls (seen ++ o.events) options (sending_side e queued past packets) (receiving_side o.after (after_effects o.effects their_past) (reading_after d input o reading))
 
   -- what is known after the turn, once this was read
   abbrev After : List ReadMessage → Type 0
-  After reads = AreEnds ends.never_resets (seen ++ o.events) options (sending_side e queued past packets) (receiving_side o.after (after_effects o.effects their_past) (record { reads = reads; last = tags_or reading.last (identity_of_core o.after.core) }))
+  After reads = AreEnds ends.calls (seen ++ o.events) options (sending_side e queued past packets) (receiving_side o.after (after_effects o.effects their_past) (record { reads = reads; last = tags_or reading.last (identity_of_core o.after.core); resets = resets_after d input o reading }))
 
   unread_goes : tagged_after reading.last d input reading.reads ≡ reading.reads → After reading.reads → Turned
   unread_goes unread goes = subst After (sym unread) goes
 
   -- Without an association the last one stays the last.
-  still_last : identity_of_core o.after.core ≡ None → (reads : List ReadMessage) → AreEnds ends.never_resets (seen ++ o.events) options (sending_side e queued past packets) (receiving_side o.after (after_effects o.effects their_past) (record { reads = reads; last = reading.last })) → After reads
-  still_last unlinked reads = subst (λ (n : Tags). AreEnds ends.never_resets (seen ++ o.events) options (sending_side e queued past packets) (receiving_side o.after (after_effects o.effects their_past) (record { reads = reads; last = n }))) (sym (ap (tags_or reading.last) unlinked))
+  still_last : identity_of_core o.after.core ≡ None → (reads : List ReadMessage) → AreEnds ends.calls (seen ++ o.events) options (sending_side e queued past packets) (receiving_side o.after (after_effects o.effects their_past) (record { reads = reads; last = reading.last; resets = resets_after d input o reading })) → After reads
+  still_last unlinked reads = subst (λ (n : Tags). AreEnds ends.calls (seen ++ o.events) options (sending_side e queued past packets) (receiving_side o.after (after_effects o.effects their_past) (record { reads = reads; last = n; resets = resets_after d input o reading }))) (sym (ap (tags_or reading.last) unlinked))
 
   -- What is reported in the turn is seen.
   heard_resting : o.after.queues.transfer ≡ None → identity_of_core o.after.core ≡ None → AreHeard ends.gets (after_effects o.effects their_past) (packets_of_events (seen ++ o.events))
@@ -92,6 +93,9 @@ module _ (options : Options) (ends : Ends) (e : Endpoint) (queued : List Message
             left = left;
             last = λ link there. (let clash : ◌≡◌ {A = Option AssociationIdentity} None (Some link) = sym unlinked ∙ there in absurd (cc));
             were_read = h.receiver.were_read;
+            were_reset = λ report has.
+                reset_stays ends.gets ends.gets their_past (after_effects o.effects their_past) report (λ t was. was) (of_link_later o.effects their_past report.tags)
+                (h.receiver.were_reset report (still_reported reading.last (reached_index d input o reading) reading.resets report o shows no_performs has));
             begun = λ tag. begun_later options ends o.effects their_past tag (h.receiver.begun tag);
             last_of = of_link_later o.effects their_past reading.last h.receiver.last_of;
             reads_of = all_of_later o.effects their_past reading.reads h.receiver.reads_of;
@@ -120,7 +124,7 @@ module _ (options : Options) (ends : Ends) (e : Endpoint) (queued : List Message
     left_read : (message : MessageContent) (messages : List MessageContent) → (ends.gets reading.last.peer).reassembly.incoming.ready ≡ message ∷ messages → o.after.left ≡ messages → After (and_first reading.last (message ∷ messages) reading.reads)
     left_read message messages ready left =
         let tag : ℕ = reading.last.peer in
-        let got : ReceivingEnd = record { first_tsn = (ends.gets tag).first_tsn; tracker = (ends.gets tag).tracker; reassembly = with_ready messages (ends.gets tag).reassembly; read = (ends.gets tag).read ++ message ∷ [] } in
+        let got : ReceivingEnd = record { first_tsn = (ends.gets tag).first_tsn; tracker = (ends.gets tag).tracker; reassembly = with_ready messages (ends.gets tag).reassembly; read = (ends.gets tag).read ++ message ∷ []; performed = (ends.gets tag).performed } in
         let rest = rests_answered ends e past d their_past w input o may turn unlinked no_performs in
         still_last unlinked (and_first reading.last (message ∷ messages) reading.reads) (record {
           ends = record ends { gets = table_with tag got ends.gets };
@@ -142,6 +146,10 @@ module _ (options : Options) (ends : Ends) (e : Endpoint) (queued : List Message
               last = λ link there. (let clash : ◌≡◌ {A = Option AssociationIdentity} None (Some link) = sym unlinked ∙ there in absurd (cc));
               were_read = set_all (λ t g. with_key t (and_first reading.last (message ∷ messages) reading.reads) ≡ g.read) tag got ends.gets
                   (first_own reading.last (message ∷ messages) reading.reads ∙ ap (λ (l : List MessageContent). l ++ message ∷ []) (h.receiver.were_read tag)) (λ t ne. first_other t reading.last (message ∷ messages) reading.reads ne ∙ h.receiver.were_read t);
+              were_reset = λ report has.
+                  reset_stays ends.gets (table_with tag got ends.gets) their_past (after_effects o.effects their_past) report
+                  (set_all (λ t g. HasEntry report.reset (ends.gets t).performed → HasEntry report.reset g.performed) tag got ends.gets (λ was. was) (λ t ne was. was)) (of_link_later o.effects their_past report.tags)
+                  (h.receiver.were_reset report (still_reported reading.last (reached_index d input o reading) reading.resets report o shows no_performs has));
               begun = λ t. elim (decide t tag) [
                 | inl e' ↦ inr (subst (λ (n : ℕ). HadTag (after_effects o.effects their_past) n (ends.firsts n)) (sym e') (had (h.receiver.begun tag)))
                 | inr ne ↦ elim (begun_later options ends o.effects their_past t (h.receiver.begun t)) [ inl new' ↦ inl (set_other tag t got ends.gets ne ∙ new') | inr had' ↦ inr had' ]
@@ -175,12 +183,12 @@ module _ (options : Options) (ends : Ends) (e : Endpoint) (queued : List Message
 
         -- It is read whether the sender is met or not.
         alone_here : MetOrAlone options ends past their_past reading.last.peer
-            → MetOrAlone options (record ends { gets = table_with reading.last.peer (record { first_tsn = (ends.gets reading.last.peer).first_tsn; tracker = (ends.gets reading.last.peer).tracker; reassembly = with_ready messages (ends.gets reading.last.peer).reassembly; read = (ends.gets reading.last.peer).read ++ message ∷ [] }) ends.gets }) past (after_effects o.effects their_past) reading.last.peer
+            → MetOrAlone options (record ends { gets = table_with reading.last.peer (record { first_tsn = (ends.gets reading.last.peer).first_tsn; tracker = (ends.gets reading.last.peer).tracker; reassembly = with_ready messages (ends.gets reading.last.peer).reassembly; read = (ends.gets reading.last.peer).read ++ message ∷ []; performed = (ends.gets reading.last.peer).performed }) ends.gets }) past (after_effects o.effects their_past) reading.last.peer
         alone_here (inl met) = inl (met_later past past their_past (after_effects o.effects their_past) (λ effect has. has) (after_within o.effects their_past) reading.last.peer met)
         alone_here (inr run) =
             inr
-            (subst (λ (g : ReceivingEnd). DirectionRun options (ends.firsts reading.last.peer) options.max_receiver_window_buffer_size (direction_of_ends (unbegun_end options) g)) (sym (set_same reading.last.peer (record { first_tsn = (ends.gets reading.last.peer).first_tsn; tracker = (ends.gets reading.last.peer).tracker; reassembly = with_ready messages (ends.gets reading.last.peer).reassembly; read = (ends.gets reading.last.peer).read ++ message ∷ [] }) ends.gets))
-            (directions.goes_on (direction_of_ends (unbegun_end options) (ends.gets reading.last.peer)) (direction_of_ends (unbegun_end options) (record { first_tsn = (ends.gets reading.last.peer).first_tsn; tracker = (ends.gets reading.last.peer).tracker; reassembly = with_ready messages (ends.gets reading.last.peer).reassembly; read = (ends.gets reading.last.peer).read ++ message ∷ [] })) run (directions.takes message messages ready)))
+            (subst (λ (g : ReceivingEnd). DirectionRun options (ends.firsts reading.last.peer) options.max_receiver_window_buffer_size (direction_of_ends (unbegun_end options) g)) (sym (set_same reading.last.peer (record { first_tsn = (ends.gets reading.last.peer).first_tsn; tracker = (ends.gets reading.last.peer).tracker; reassembly = with_ready messages (ends.gets reading.last.peer).reassembly; read = (ends.gets reading.last.peer).read ++ message ∷ []; performed = (ends.gets reading.last.peer).performed }) ends.gets))
+            (directions.goes_on (direction_of_ends (unbegun_end options) (ends.gets reading.last.peer)) (direction_of_ends (unbegun_end options) (record { first_tsn = (ends.gets reading.last.peer).first_tsn; tracker = (ends.gets reading.last.peer).tracker; reassembly = with_ready messages (ends.gets reading.last.peer).reassembly; read = (ends.gets reading.last.peer).read ++ message ∷ []; performed = (ends.gets reading.last.peer).performed })) run (directions.takes message messages ready)))
 
     takes_goes : (left : List MessageContent) → IsLeft left → o.after.left ≡ without_first_message left → and_first reading.last left reading.reads ≡ tagged_after reading.last d input reading.reads → Turned
     takes_goes [] is stays same' = unread_rests (sym same') (inl stays)

@@ -15,7 +15,7 @@ use Rattle.dcsctp_spec_lemmas.specs.spec.association.Effect.{AssociationIdentity
 use Rattle.dcsctp_spec_lemmas.specs.spec.queues.SendQueue.{empty_queue}
 use Rattle.dcsctp_spec_lemmas.specs.spec.queues.Transfer.{Transfer, EndpointQueues}
 use Rattle.dcsctp_theorem_association.proofs.Growth.{after_within}
-use Rattle.dcsctp_delivery_sending.specs.Places.{table_with}
+use Rattle.dcsctp_delivery_sending.specs.Places.{HasEntry, table_with}
 use Rattle.dcsctp_delivery_sending.specs.Log.{Message, Fits}
 use Rattle.dcsctp_delivery_sending.specs.Queueing.{QueueWaits}
 use Rattle.dcsctp_delivery_sending.specs.Marking.{all_marked}
@@ -46,6 +46,7 @@ use Rattle.dcsctp_delivery_associations.proofs.Heard.{HasGrown, same_grown, hear
 use Rattle.dcsctp_delivery_associations.proofs.Seen.{RequestsStay, AllStay, nothing_stays, seen_still}
 use Rattle.dcsctp_delivery_associations.proofs.SenderStays.{receiver_same, all_wait_marked}
 use Rattle.dcsctp_delivery_associations.proofs.WhatIsLeft.{ready_same}
+use Rattle.dcsctp_delivery_associations.proofs.WhatIsReset.{reset_stays}
 
 -- ---- an association begins
 
@@ -89,6 +90,10 @@ receiver_renewed options ends sends latest former d past reading tag first r fre
       left = ready_same ends.gets (table_with tag (new_end options first) ends.gets) reading.last.peer d.left d.queues.transfer
           (set_all (λ t g. g.reassembly.incoming.ready ≡ (ends.gets t).reassembly.incoming.ready) tag (new_end options first) ends.gets (sym (ap (λ (g : ReceivingEnd). g.reassembly.incoming.ready) fresh)) (λ t ne. refl)) r.left;
       were_read = set_all (λ t g. with_key t reading.reads ≡ g.read) tag (new_end options first) ends.gets (r.were_read tag ∙ ap (λ (g : ReceivingEnd). g.read) fresh) (λ t ne. r.were_read t);
+      were_reset = λ report has.
+          reset_stays ends.gets (table_with tag (new_end options first) ends.gets) past past report
+          (set_all (λ t g. HasEntry report.reset (ends.gets t).performed → HasEntry report.reset g.performed) tag (new_end options first) ends.gets
+          (λ was. absurd (subst (λ (g : ReceivingEnd). HasEntry report.reset g.performed) fresh was)) (λ t ne was. was)) (λ of. of) (r.were_reset report has);
       begun = λ t. elim (decide t tag) [
         | inl e ↦
             inl (subst (λ (n : ℕ). table_with tag (new_end options first) ends.gets n ≡ new_end options (table_with tag first ends.firsts n)) (sym e)
@@ -168,13 +173,13 @@ module _ (options : Options) (ends : Ends) (e : Endpoint) (queued : List Message
 
   -- Do the numbers of each stream begin at 0, and does it begin with all that was queued?
   abbrev pub begins_anew : Beginning
-  begins_anew = record { from_zero = e.options.follow_rfc || never_held past; keeps = λ id. ends.never_resets id && never_held past }
+  begins_anew = record { from_zero = e.options.follow_rfc || never_held past; keeps = λ id. ends.calls.never id && never_held past; asks = ends.calls.asks }
 
   -- So it does.
   pub begins_so : BeginsAs begins_anew marks begun.queue
-  begins_so = record { zero = go e.options.follow_rfc (never_held past) refl refl; all = λ id. all_wait id (ends.never_resets id) (never_held past) refl refl }
+  begins_so = record { zero = go e.options.follow_rfc (never_held past) refl refl; all = λ id. all_wait id (ends.calls.never id) (never_held past) refl refl }
     where
-      all_wait : (id : ℕ) (resets never : Bool) → ends.never_resets id ≡ resets → never_held past ≡ never → (resets && never) ≡ true → AllWaitOn id marks begun.queue.streams
+      all_wait : (id : ℕ) (resets never : Bool) → ends.calls.never id ≡ resets → never_held past ≡ never → (resets && never) ≡ true → AllWaitOn id marks begun.queue.streams
       all_wait id true true is none is_so =
           let before = h.unbegun (none_held past none) in
           let end : SendingEnd = ends.sends (sender_key e.core) in
@@ -197,16 +202,19 @@ module _ (options : Options) (ends : Ends) (e : Endpoint) (queued : List Message
 
   -- It keeps each stream then that the user never resets.
   kept_anew : NewPeer past their_past new → (end : SendingEnd) → end.beginning ≡ begins_anew → (tag : ℕ) → tag ≢ 0 → IsOnlyOwn (after_effects o.effects past) tag
-      → KeepsThese ends.never_resets (table_with begun.my.tag end ends.sends tag).beginning
+      → KeepsThese ends.calls (table_with begun.my.tag end ends.sends tag).beginning
   kept_anew is end here =
-      set_all (λ tag s. tag ≢ 0 → IsOnlyOwn (after_effects o.effects past) tag → KeepsThese ends.never_resets s.beginning) begun.my.tag end ends.sends
+      set_all (λ tag s. tag ≢ 0 → IsOnlyOwn (after_effects o.effects past) tag → KeepsThese ends.calls s.beginning) begun.my.tag end ends.sends
       (λ some only id never. ap (λ (b : Beginning). b.keeps id) here ∙ ap (λ (b : Bool). b && never_held past) never ∙ first_of_all is only)
       (λ tag ne some only. absurd (ne (sym (only new new_held))))
 
-  pub dropping_anew : (end : SendingEnd) → end.beginning ≡ begins_anew → (tag : ℕ) → KeepsOnlyThese ends.never_resets (table_with begun.my.tag end ends.sends tag).beginning
+  pub dropping_anew : (end : SendingEnd) → end.beginning ≡ begins_anew → (tag : ℕ) → KeepsOnlyThese ends.calls (table_with begun.my.tag end ends.sends tag).beginning
   dropping_anew end here =
-      set_all (λ tag s. KeepsOnlyThese ends.never_resets s.beginning) begun.my.tag end ends.sends
-      (λ id resets. ap (λ (b : Beginning). b.keeps id) here ∙ ap (λ (b : Bool). b && never_held past) resets) (λ tag ne. h.dropping tag)
+      set_all (λ tag s. KeepsOnlyThese ends.calls s.beginning) begun.my.tag end ends.sends
+      (record {
+        dropped = λ id resets. ap (λ (b : Beginning). b.keeps id) here ∙ ap (λ (b : Bool). b && never_held past) resets;
+        asks = ap (λ (b : Beginning). b.asks) here;
+      }) (λ tag ne. h.dropping tag)
 
   -- So they do in the new association, if it is the only one or the sender follows the RFC, and in each other as before.
   pub numbers_anew : NewPeer past their_past new → (end : SendingEnd) → end.beginning ≡ begins_anew → (tag : ℕ) → tag ≢ 0 → NumbersFromZero o.after (after_effects o.effects past) tag
@@ -291,7 +299,7 @@ module _ (options : Options) (ends : Ends) (e : Endpoint) (queued : List Message
 
   crossed_begins : (seen : List (Event Emission)) → AreSeen ends d their_past seen → NewPeer past their_past new → Awaits (ends.sends begun.my.tag) → identity_of_core o.after.core ≡ Some new → AreAddressed begun.held.peer.tag (packets_of_events o.events)
       → QueueWaits marks e.queues.queue → AllByRecursion Fits marks → Later → ends.firsts begun.my.tag ≡ begun.my.first_tsn
-      → AreEnds ends.never_resets seen options (sending_side o.after queued (after_effects o.effects past) (packets ++ packets_of_events o.events)) (receiving_side d their_past reading)
+      → AreEnds ends.calls seen options (sending_side o.after queued (after_effects o.effects past) (packets ++ packets_of_events o.events)) (receiving_side d their_past reading)
   crossed_begins seen reported is waits linked addressed shown fit later same =
       let to : ℕ = begun.my.tag in
       let ps : List Emission = packets_of_events o.events in
@@ -332,7 +340,7 @@ module _ (options : Options) (ends : Ends) (e : Endpoint) (queued : List Message
   fresh_begins : (seen : List (Event Emission)) → AreSeen ends d their_past seen → NewPeer past their_past new → Awaits (ends.sends begun.my.tag) → identity_of_core o.after.core ≡ Some new → AreAddressed begun.held.peer.tag (packets_of_events o.events)
       → QueueWaits marks e.queues.queue → AllByRecursion Fits marks → Later → ends.gets begun.my.tag ≡ new_end options (ends.firsts begun.my.tag)
       → ((transfer : Transfer) (link : AssociationIdentity) → d.queues.transfer ≡ Some transfer → identity_of_core d.core ≡ Some link → link.peer.tag ≢ begun.my.tag)
-      → AreEnds ends.never_resets seen options (sending_side o.after queued (after_effects o.effects past) (packets ++ packets_of_events o.events)) (receiving_side d their_past reading)
+      → AreEnds ends.calls seen options (sending_side o.after queued (after_effects o.effects past) (packets ++ packets_of_events o.events)) (receiving_side d their_past reading)
   fresh_begins seen reported is waits linked addressed shown fit later fresh apart =
       let to : ℕ = begun.my.tag in
       let first : ℕ = begun.my.first_tsn in
@@ -342,9 +350,9 @@ module _ (options : Options) (ends : Ends) (e : Endpoint) (queued : List Message
       let new_alone : DirectionRun options (firsts to) options.max_receiver_window_buffer_size (direction_of_ends (unbegun_end options) (gets to)) =
       subst (λ (n : ℕ). DirectionRun options n options.max_receiver_window_buffer_size (direction_of_ends (unbegun_end options) (gets to))) (sym (set_same to first ends.firsts))
       (subst (λ (g : ReceivingEnd). DirectionRun options first options.max_receiver_window_buffer_size (direction_of_ends (unbegun_end options) g)) (sym (set_same to (new_end options first) ends.gets))
-      (senders_begin options options first options.max_receiver_window_buffer_size (λ id. false))) in
+      (senders_begin options options first options.max_receiver_window_buffer_size (λ id. false) (λ id count. false))) in
       let run = later options options.max_receiver_window_buffer_size
-      (new_direction options first options.max_receiver_window_buffer_size [] (record { queue = empty_queue options; transfer = None }) 0 [] (record { from_zero = true; keeps = λ id. false })) marks begins_anew shown fit (senders_begin options options first options.max_receiver_window_buffer_size (λ id. false))
+      (new_direction options first options.max_receiver_window_buffer_size [] (record { queue = empty_queue options; transfer = None }) 0 [] (record { from_zero = true; keeps = λ id. false; asks = λ id count. false })) marks begins_anew shown fit (senders_begin options options first options.max_receiver_window_buffer_size (λ id. false) (λ id count. false))
       (record { queued = refl; sent = refl; acknowledged = refl; transfer = refl; asking = refl }) begins_so in
       let end : SendingEnd = renewed_end ends (sender_key e.core) (peer_tag e.core) e.queues queued past packets h.sender o.effects to begun.held.peer.tag o.after.queues run.0 ps run.1 begins_anew gets firsts None in
       let ends' : Ends = renewed_ends ends (sender_key e.core) (peer_tag e.core) e.queues queued past packets h.sender o.effects to begun.held.peer.tag o.after.queues run.0 ps run.1 begins_anew gets firsts None in
@@ -398,7 +406,7 @@ module _ (options : Options) (ends : Ends) (e : Endpoint) (queued : List Message
 
   pub begins : (seen : List (Event Emission)) → AreSeen ends d their_past seen → NewPeer past their_past new → identity_of_core o.after.core ≡ Some new → AreAddressed begun.held.peer.tag (packets_of_events o.events)
       → QueueWaits (ends.sends (sender_key e.core)).queued e.queues.queue → AllByRecursion Fits (ends.sends (sender_key e.core)).queued → Later
-      → AreEnds ends.never_resets seen options (sending_side o.after queued (after_effects o.effects past) (packets ++ packets_of_events o.events)) (receiving_side d their_past reading)
+      → AreEnds ends.calls seen options (sending_side o.after queued (after_effects o.effects past) (packets ++ packets_of_events o.events)) (receiving_side d their_past reading)
   begins seen reported is linked addressed shown fit later =
       elim (h.sender.begun begun.my.tag is.some) [
         | inl waits ↦ go waits (known options ends d past their_past reading h.receiver new is d.queues.transfer refl)
@@ -413,6 +421,6 @@ module _ (options : Options) (ends : Ends) (e : Endpoint) (queued : List Message
       fit_marks : AllByRecursion Fits marks
       fit_marks = all_marked_fit (length (ends.sends (sender_key e.core)).queued) (ends.sends (sender_key e.core)).queues.queue.streams (ends.sends (sender_key e.core)).queued fit
 
-      go : Awaits (ends.sends begun.my.tag) → Known options ends d new → AreEnds ends.never_resets seen options (sending_side o.after queued (after_effects o.effects past) (packets ++ packets_of_events o.events)) (receiving_side d their_past reading)
+      go : Awaits (ends.sends begun.my.tag) → Known options ends d new → AreEnds ends.calls seen options (sending_side o.after queued (after_effects o.effects past) (packets ++ packets_of_events o.events)) (receiving_side d their_past reading)
       go waits (is_crossed same) = crossed_begins seen reported is waits linked addressed holds_marks fit_marks later same
       go waits (is_fresh fresh apart) = fresh_begins seen reported is waits linked addressed holds_marks fit_marks later fresh apart

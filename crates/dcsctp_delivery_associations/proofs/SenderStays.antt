@@ -1,5 +1,5 @@
 -- A turn of the sender in which its association continues, or ends.
-use Rattle.std.proofs.Common.{◌≡◌, ◌≢◌, ℕ, Bool, true, false, Option, None, Some, List, [], ◌++◌, length, refl, sym, ◌∙◌, ap, subst, inl, inr, ◌∷◌}
+use Rattle.std.proofs.Common.{◌≡◌, ◌≢◌, ℕ, true, false, Option, None, Some, List, [], ◌++◌, length, refl, sym, ◌∙◌, ap, subst, inl, inr, ◌∷◌}
 use Rattle.std.specs.List.{AllByRecursion}
 use Rattle.std.proofs.lemmas.List.{append-nil}
 use Rattle.dcsctp_spec_lemmas.specs.types.declared.options.Options.{Options}
@@ -27,7 +27,7 @@ use Rattle.dcsctp_delivery_turns.specs.Asking.{own_of, AsksFit}
 use Rattle.dcsctp_delivery_turns.specs.Addressed.{AreAddressed}
 use Rattle.dcsctp_delivery_turns.specs.Runs.{direction_with_sender}
 use Rattle.dcsctp_delivery_turns.proofs.Runs.{begins_anew}
-use Rattle.dcsctp_delivery_associations.specs.Ends.{SendingEnd, ReceivingEnd, direction_of_ends, new_end, Ends, IsUnbegun, NeverHeld, KeepsThese, KeepsOnlyThese, NumbersFromZero, sender_key, Sender, Receiver, AreSeen, Between, IsOnlyOwn, IsBefore, sending_side, receiving_side}
+use Rattle.dcsctp_delivery_associations.specs.Ends.{ResetCalls, SendingEnd, ReceivingEnd, direction_of_ends, new_end, Ends, IsUnbegun, NeverHeld, KeepsThese, KeepsOnlyThese, NumbersFromZero, sender_key, Sender, Receiver, AreSeen, Between, IsOnlyOwn, IsBefore, sending_side, receiving_side}
 use Rattle.dcsctp_delivery_associations.specs.Answered.{AreAnswered}
 use Rattle.dcsctp_delivery_associations.specs.Laws.{AreEnds}
 use Rattle.dcsctp_delivery_associations.proofs.Seen.{RequestsStay, seen_still}
@@ -46,6 +46,7 @@ receiver_same options ends sends latest former d past reading r =
       left = r.left;
       last = r.last;
       were_read = r.were_read;
+      were_reset = r.were_reset;
       begun = r.begun;
       last_of = r.last_of;
       reads_of = r.reads_of;
@@ -59,8 +60,8 @@ all_wait_marked id count marking queued streams all =
       unpaused = all.unpaused;
     }
 
-unbegun_marked : (never_resets : ℕ → Bool) (count : ℕ) (marking : List Stream) (queued : List Message) (e : Endpoint) → IsUnbegun never_resets queued e → IsUnbegun never_resets (all_marked count marking queued) e
-unbegun_marked never_resets count marking queued e u =
+unbegun_marked : (calls : ResetCalls) (count : ℕ) (marking : List Stream) (queued : List Message) (e : Endpoint) → IsUnbegun calls queued e → IsUnbegun calls (all_marked count marking queued) e
+unbegun_marked calls count marking queued e u =
     record { unlinked = u.unlinked; idle = u.idle; zero = u.zero; all = λ id never. all_wait_marked id count marking queued e.queues.queue.streams (u.all id never) }
 
 module _ (options : Options) (ends : Ends) (e : Endpoint) (queued : List Message) (past : List Effect) (packets : List Emission) (d : Endpoint) (their_past : List Effect) (reading : Reading)
@@ -78,9 +79,9 @@ module _ (options : Options) (ends : Ends) (e : Endpoint) (queued : List Message
 
   -- what is to be shown of the turn
   abbrev pub Turned : List (Event Emission) → Type 0
-  Turned seen = AreEnds ends.never_resets seen options (sending_side o.after (queued_after e input queued) (after_effects o.effects past) (packets ++ packets_of_events o.events)) (receiving_side d their_past reading)
+  Turned seen = AreEnds ends.calls seen options (sending_side o.after (queued_after e input queued) (after_effects o.effects past) (packets ++ packets_of_events o.events)) (receiving_side d their_past reading)
 
-  pub goes_on : (seen : List (Event Emission)) → AreSeen ends d their_past seen → AreAnswered ends e past d their_past → ((each : AssociationIdentity) → HasEffect (holds each) (after_effects o.effects past) → HasEffect (holds each) past) → o.after.options.follow_rfc ≡ e.options.follow_rfc → (NeverHeld (after_effects o.effects past) → IsUnbegun ends.never_resets (queued_after e input (ends.sends (sender_key e.core)).queued) o.after) → identity_of_core o.after.core ≡ identity_of_core e.core → o.after.queues.queue.is_interleaved ≡ e.queues.queue.is_interleaved → AreAddressed (peer_tag e.core) (packets_of_events o.events) → (acknowledged : ℕ) (asking : Asking) → RequestsStay (ends.sends (sender_key e.core)).asking asking → AsksFit (ends.firsts (sender_key e.core)) (own_of o.after) asking
+  pub goes_on : (seen : List (Event Emission)) → AreSeen ends d their_past seen → AreAnswered ends e past d their_past → ((each : AssociationIdentity) → HasEffect (holds each) (after_effects o.effects past) → HasEffect (holds each) past) → o.after.options.follow_rfc ≡ e.options.follow_rfc → (NeverHeld (after_effects o.effects past) → IsUnbegun ends.calls (queued_after e input (ends.sends (sender_key e.core)).queued) o.after) → identity_of_core o.after.core ≡ identity_of_core e.core → o.after.queues.queue.is_interleaved ≡ e.queues.queue.is_interleaved → AreAddressed (peer_tag e.core) (packets_of_events o.events) → (acknowledged : ℕ) (asking : Asking) → RequestsStay (ends.sends (sender_key e.core)).asking asking → AsksFit (ends.firsts (sender_key e.core)) (own_of o.after) asking
       → AreAnswered (grown_ends ends (sender_key e.core) (peer_tag e.core) e.queues queued past packets h.sender o.effects more o.after.queues acknowledged (packets_of_events o.events) asking) o.after (after_effects o.effects past) d their_past
       → DirectionRun options (ends.firsts (sender_key e.core)) options.max_receiver_window_buffer_size
       (direction_with_sender (direction_of_ends (ends.sends (sender_key e.core)) (ends.gets (sender_key e.core))) (queued_after e input (ends.sends (sender_key e.core)).queued) o.after.queues acknowledged ((ends.sends (sender_key e.core)).sent ++ packets_of_events o.events) asking)
@@ -108,13 +109,13 @@ module _ (options : Options) (ends : Ends) (e : Endpoint) (queued : List Message
               (subst (λ (s : SendingEnd). AsksFit (ends.firsts key) (own_of o.after) s.asking) (sym (set_same key end ends.sends)) fits);
           numbered = set_all (λ tag s. tag ≢ 0 → NumbersFromZero o.after (after_effects o.effects past) tag → s.beginning.from_zero ≡ true) key end ends.sends (λ some anew. h.numbered key some (anew_before follows key anew))
               (λ tag ne some anew. h.numbered tag some (anew_before follows tag anew));
-          kept = set_all (λ tag s. tag ≢ 0 → IsOnlyOwn (after_effects o.effects past) tag → KeepsThese ends.never_resets s.beginning) key end ends.sends
+          kept = set_all (λ tag s. tag ≢ 0 → IsOnlyOwn (after_effects o.effects past) tag → KeepsThese ends.calls s.beginning) key end ends.sends
               (λ some only. h.kept key some (only_before key only)) (λ tag ne some only. h.kept tag some (only_before tag only));
-          dropping = set_all (λ tag s. KeepsOnlyThese ends.never_resets s.beginning) key end ends.sends (h.dropping key) (λ tag ne. h.dropping tag);
+          dropping = set_all (λ tag s. KeepsOnlyThese ends.calls s.beginning) key end ends.sends (h.dropping key) (λ tag ne. h.dropping tag);
           unbegun = λ never.
-              subst (λ (k : ℕ). IsUnbegun ends.never_resets (table_with key end ends.sends k).queued o.after) (sym (same_key o.after.core e.core linked))
-              (subst (λ (s : SendingEnd). IsUnbegun ends.never_resets s.queued o.after) (sym (set_same key end ends.sends))
-              (subst (λ (l : List Message). IsUnbegun ends.never_resets l o.after) (input_adds e input (ends.sends key).queued) (unbegun never)));
+              subst (λ (k : ℕ). IsUnbegun ends.calls (table_with key end ends.sends k).queued o.after) (sym (same_key o.after.core e.core linked))
+              (subst (λ (s : SendingEnd). IsUnbegun ends.calls s.queued o.after) (sym (set_same key end ends.sends))
+              (subst (λ (l : List Message). IsUnbegun ends.calls l o.after) (input_adds e input (ends.sends key).queued) (unbegun never)));
           receiver = receiver_same options ends later.sends later.latest later.former d their_past reading h.receiver;
           alone = λ tag. alone_later options ends later past (after_effects o.effects past) their_past their_past (after_within o.effects past) (λ effect has. has) tag refl refl (h.alone tag);
         };
@@ -137,9 +138,9 @@ module _ (options : Options) (ends : Ends) (e : Endpoint) (queued : List Message
       → last.queue.is_interleaved ≡ e.queues.queue.is_interleaved → Ends
   ended_ends none_began last acknowledged asking addressed kind =
       renewed_ends (grown_ends ends (sender_key e.core) (peer_tag e.core) e.queues queued past packets h.sender o.effects more last acknowledged (packets_of_events o.events) asking) (sender_key e.core) (peer_tag e.core) last (more ++ queued) (after_effects o.effects past)
-      (packets ++ packets_of_events o.events) (grown ends (sender_key e.core) (peer_tag e.core) e.queues queued past packets h.sender o.effects more last acknowledged (packets_of_events o.events) asking addressed kind none_began) [] 0 0 o.after.queues 0 [] nothing_asked (record { from_zero = false; keeps = λ id. false }) ends.gets ends.firsts None
+      (packets ++ packets_of_events o.events) (grown ends (sender_key e.core) (peer_tag e.core) e.queues queued past packets h.sender o.effects more last acknowledged (packets_of_events o.events) asking addressed kind none_began) [] 0 0 o.after.queues 0 [] nothing_asked (record { from_zero = false; keeps = λ id. false; asks = ends.calls.asks }) ends.gets ends.firsts None
 
-  pub ended : (seen : List (Event Emission)) → AreSeen ends d their_past seen → AreAnswered ends e past d their_past → (none_began : (each : AssociationIdentity) → HasEffect (holds each) (after_effects o.effects past) → HasEffect (holds each) past) → o.after.options.follow_rfc ≡ e.options.follow_rfc → (NeverHeld (after_effects o.effects past) → IsUnbegun ends.never_resets (queued_after e input (ends.sends (sender_key e.core)).queued) o.after) → identity_of_core o.after.core ≡ None → (addressed : AreAddressed (peer_tag e.core) (packets_of_events o.events)) → (last : EndpointQueues) → (kind : last.queue.is_interleaved ≡ e.queues.queue.is_interleaved) → o.after.queues ≡ record last { transfer = None }
+  pub ended : (seen : List (Event Emission)) → AreSeen ends d their_past seen → AreAnswered ends e past d their_past → (none_began : (each : AssociationIdentity) → HasEffect (holds each) (after_effects o.effects past) → HasEffect (holds each) past) → o.after.options.follow_rfc ≡ e.options.follow_rfc → (NeverHeld (after_effects o.effects past) → IsUnbegun ends.calls (queued_after e input (ends.sends (sender_key e.core)).queued) o.after) → identity_of_core o.after.core ≡ None → (addressed : AreAddressed (peer_tag e.core) (packets_of_events o.events)) → (last : EndpointQueues) → (kind : last.queue.is_interleaved ≡ e.queues.queue.is_interleaved) → o.after.queues ≡ record last { transfer = None }
       → QueueWaits (queued_after e input (ends.sends (sender_key e.core)).queued) last.queue → AllByRecursion Fits (queued_after e input (ends.sends (sender_key e.core)).queued) → (acknowledged : ℕ) (asking : Asking) → RequestsStay (ends.sends (sender_key e.core)).asking asking
       → AreAnswered (ended_ends none_began last acknowledged asking addressed kind) o.after (after_effects o.effects past) d their_past
       → DirectionRun options (ends.firsts (sender_key e.core)) options.max_receiver_window_buffer_size
@@ -151,11 +152,11 @@ module _ (options : Options) (ends : Ends) (e : Endpoint) (queued : List Message
       let end : SendingEnd = grown_end ends key (peer_tag e.core) e.queues queued past packets h.sender o.effects more last acknowledged ps asking in
       let middle : Ends = grown_ends ends key (peer_tag e.core) e.queues queued past packets h.sender o.effects more last acknowledged ps asking in
       let first : Sender middle key (peer_tag e.core) last (more ++ queued) (after_effects o.effects past) (packets ++ ps) = grown ends key (peer_tag e.core) e.queues queued past packets h.sender o.effects more last acknowledged ps asking addressed kind none_began in
-      let marked : List Message = marked_queue middle key (peer_tag e.core) last (more ++ queued) (after_effects o.effects past) (packets ++ ps) first [] 0 0 o.after.queues 0 [] nothing_asked (record { from_zero = false; keeps = λ id. false }) ends.gets ends.firsts None in
-      let later : Ends = renewed_ends middle key (peer_tag e.core) last (more ++ queued) (after_effects o.effects past) (packets ++ ps) first [] 0 0 o.after.queues 0 [] nothing_asked (record { from_zero = false; keeps = λ id. false }) ends.gets ends.firsts None in
-      let new : SendingEnd = renewed_end middle key (peer_tag e.core) last (more ++ queued) (after_effects o.effects past) (packets ++ ps) first [] 0 0 o.after.queues 0 [] nothing_asked (record { from_zero = false; keeps = λ id. false }) ends.gets ends.firsts None in
+      let marked : List Message = marked_queue middle key (peer_tag e.core) last (more ++ queued) (after_effects o.effects past) (packets ++ ps) first [] 0 0 o.after.queues 0 [] nothing_asked (record { from_zero = false; keeps = λ id. false; asks = ends.calls.asks }) ends.gets ends.firsts None in
+      let later : Ends = renewed_ends middle key (peer_tag e.core) last (more ++ queued) (after_effects o.effects past) (packets ++ ps) first [] 0 0 o.after.queues 0 [] nothing_asked (record { from_zero = false; keeps = λ id. false; asks = ends.calls.asks }) ends.gets ends.firsts None in
+      let new : SendingEnd = renewed_end middle key (peer_tag e.core) last (more ++ queued) (after_effects o.effects past) (packets ++ ps) first [] 0 0 o.after.queues 0 [] nothing_asked (record { from_zero = false; keeps = λ id. false; asks = ends.calls.asks }) ends.gets ends.firsts None in
       let second : Sender later 0 0 o.after.queues (more ++ queued) (after_effects o.effects past) ((packets ++ ps) ++ []) =
-      renewed middle key (peer_tag e.core) last (more ++ queued) (after_effects o.effects past) (packets ++ ps) first [] 0 0 o.after.queues 0 [] nothing_asked (record { from_zero = false; keeps = λ id. false }) ends.gets ends.firsts None (λ each has same. absurd ((first.known each has).0 same)) (none_former (ends.former 0) refl) (λ some. absurd (some refl)) (λ tag ne. refl) tt (λ some. absurd (some refl)) (inl refl)
+      renewed middle key (peer_tag e.core) last (more ++ queued) (after_effects o.effects past) (packets ++ ps) first [] 0 0 o.after.queues 0 [] nothing_asked (record { from_zero = false; keeps = λ id. false; asks = ends.calls.asks }) ends.gets ends.firsts None (λ each has same. absurd ((first.known each has).0 same)) (none_former (ends.former 0) refl) (λ some. absurd (some refl)) (λ tag ne. refl) tt (λ some. absurd (some refl)) (inl refl)
       (λ former is. absurd (cc)) (λ each has. inl (has, (first.known each has).0)) in
       let adds : queued_after e input (ends.sends key).queued ≡ end.queued = input_adds e input (ends.sends key).queued in
       let shown' : QueueWaits end.queued last.queue = subst (λ (l : List Message). QueueWaits l last.queue) adds shown in
@@ -166,7 +167,7 @@ module _ (options : Options) (ends : Ends) (e : Endpoint) (queued : List Message
       let fits' : AllByRecursion Fits marked =
       subst (λ (s : SendingEnd). AllByRecursion Fits (all_marked (length s.queued) s.queues.queue.streams s.queued)) (sym (set_same key end ends.sends)) (all_marked_fit (length end.queued) last.queue.streams end.queued fit') in
       let anew : DirectionRun options (ends.firsts 0) options.max_receiver_window_buffer_size (direction_of_ends new (new_end options (ends.firsts 0))) =
-      begins_anew options (ends.firsts 0) options.max_receiver_window_buffer_size marked o.after.queues fits' holds' (ap (λ (b : EndpointQueues). b.transfer) is) in
+      begins_anew options (ends.firsts 0) options.max_receiver_window_buffer_size ends.calls.asks marked o.after.queues fits' holds' (ap (λ (b : EndpointQueues). b.transfer) is) in
       let never : ends.gets 0 ≡ new_end options (ends.firsts 0) = elim (h.receiver.begun 0) [ inl new' ↦ new' | inr had ↦ absurd (had.some refl) ] in
       record {
         ends = later;
@@ -187,17 +188,17 @@ module _ (options : Options) (ends : Ends) (e : Endpoint) (queued : List Message
           numbered = set_all (λ tag s. tag ≢ 0 → NumbersFromZero o.after (after_effects o.effects past) tag → s.beginning.from_zero ≡ true) 0 new middle.sends (λ some anew. absurd (some refl))
               (λ tag ne. set_all (λ t s. t ≢ 0 → NumbersFromZero o.after (after_effects o.effects past) t → s.beginning.from_zero ≡ true) key end ends.sends (λ some anew. h.numbered key some (anew_before follows key anew))
               (λ t ne' some anew. h.numbered t some (anew_before follows t anew)) tag);
-          kept = set_all (λ tag s. tag ≢ 0 → IsOnlyOwn (after_effects o.effects past) tag → KeepsThese ends.never_resets s.beginning) 0 new middle.sends (λ some only. absurd (some refl))
-              (λ tag ne. set_all (λ t s. t ≢ 0 → IsOnlyOwn (after_effects o.effects past) t → KeepsThese ends.never_resets s.beginning) key end ends.sends
+          kept = set_all (λ tag s. tag ≢ 0 → IsOnlyOwn (after_effects o.effects past) tag → KeepsThese ends.calls s.beginning) 0 new middle.sends (λ some only. absurd (some refl))
+              (λ tag ne. set_all (λ t s. t ≢ 0 → IsOnlyOwn (after_effects o.effects past) t → KeepsThese ends.calls s.beginning) key end ends.sends
               (λ some only. h.kept key some (only_before key only)) (λ t ne' some only. h.kept t some (only_before t only)) tag);
-          dropping = set_all (λ tag s. KeepsOnlyThese ends.never_resets s.beginning) 0 new middle.sends (λ id resets. refl)
-              (λ tag ne. set_all (λ t s. KeepsOnlyThese ends.never_resets s.beginning) key end ends.sends (h.dropping key) (λ t ne'. h.dropping t) tag);
+          dropping = set_all (λ tag s. KeepsOnlyThese ends.calls s.beginning) 0 new middle.sends (record { dropped = λ id resets. refl; asks = refl })
+              (λ tag ne. set_all (λ t s. KeepsOnlyThese ends.calls s.beginning) key end ends.sends (h.dropping key) (λ t ne'. h.dropping t) tag);
           unbegun = λ never.
-              subst (λ (k : ℕ). IsUnbegun ends.never_resets (table_with 0 new middle.sends k).queued o.after) (sym (no_key o.after.core none))
-              (subst (λ (s : SendingEnd). IsUnbegun ends.never_resets s.queued o.after) (sym (set_same 0 new middle.sends))
-              (subst (λ (s : SendingEnd). IsUnbegun ends.never_resets (all_marked (length s.queued) s.queues.queue.streams s.queued) o.after) (sym (set_same key end ends.sends))
-              (unbegun_marked ends.never_resets (length end.queued) last.queue.streams end.queued o.after
-              (subst (λ (l : List Message). IsUnbegun ends.never_resets l o.after) adds (unbegun never)))));
+              subst (λ (k : ℕ). IsUnbegun ends.calls (table_with 0 new middle.sends k).queued o.after) (sym (no_key o.after.core none))
+              (subst (λ (s : SendingEnd). IsUnbegun ends.calls s.queued o.after) (sym (set_same 0 new middle.sends))
+              (subst (λ (s : SendingEnd). IsUnbegun ends.calls (all_marked (length s.queued) s.queues.queue.streams s.queued) o.after) (sym (set_same key end ends.sends))
+              (unbegun_marked ends.calls (length end.queued) last.queue.streams end.queued o.after
+              (subst (λ (l : List Message). IsUnbegun ends.calls l o.after) adds (unbegun never)))));
           receiver = receiver_same options ends later.sends later.latest later.former d their_past reading h.receiver;
           alone = λ tag. alone_later options ends later past (after_effects o.effects past) their_past their_past (after_within o.effects past) (λ effect has. has) tag refl refl (h.alone tag);
         };

@@ -18,7 +18,7 @@ use Rattle.dcsctp_theorem_association.proofs.Growth.{after_within}
 use Rattle.dcsctp_delivery_sending.specs.Places.{table_with}
 use Rattle.dcsctp_delivery_sending.specs.Log.{Message}
 use Rattle.dcsctp_delivery_sending.specs.Queueing.{QueueWaits}
-use Rattle.dcsctp_delivery_directions.specs.Directions.{Direction, HasReached, Asking, DirectionRun, nothing_asked}
+use Rattle.dcsctp_delivery_directions.specs.Directions.{MayReset, Direction, HasReached, Asking, DirectionRun, nothing_asked}
 use Rattle.dcsctp_delivery_directions.proofs.Directions.{direction_queues}
 use Rattle.dcsctp_delivery_directions.proofs.RequestCounts.{requests_more, requests_more_to, requests_are_sent}
 use Rattle.dcsctp_delivery_turns.specs.Actions.{IsOpening, content_of_input, peer_tag, queued_after, resets_stream, BeginsAssociation, IsCall, Collides}
@@ -230,19 +230,19 @@ module _ (options : Options) (ends : Ends) (e : Endpoint) (queued : List Message
       (direction_queues options (ends.firsts key) options.max_receiver_window_buffer_size now (h.runs key) (h.small key) (omega (arith, later, long))).0
 
   -- A sender that had no association has none after the turn, or one begins.
-  unbegun_after : length (queued_after e input queued) < 2 ^ 64 → ResetsAs ends.never_resets input → IsCall input → Turn e input o → NeverHeld (after_effects o.effects past)
-      → IsUnbegun ends.never_resets (queued_after e input (ends.sends key).queued) o.after
+  unbegun_after : length (queued_after e input queued) < 2 ^ 64 → ResetsAs ends.calls (length queued) e input → IsCall input → Turn e input o → NeverHeld (after_effects o.effects past)
+      → IsUnbegun ends.calls (queued_after e input (ends.sends key).queued) o.after
   unbegun_after few resets may turn never =
       let before = h.unbegun (λ link held. never link (after_within o.effects past (holds link) held)) in
       go before (stays_at_zero e input o before.unlinked before.idle before.zero may turn)
     where
-      go : IsUnbegun ends.never_resets (ends.sends key).queued e → UnbegunTurns e input o → IsUnbegun ends.never_resets (queued_after e input (ends.sends key).queued) o.after
+      go : IsUnbegun ends.calls (ends.sends key).queued e → UnbegunTurns e input o → IsUnbegun ends.calls (queued_after e input (ends.sends key).queued) o.after
       go before (stays_unbegun unlinked idle at waits) =
           record {
             unlinked = unlinked;
             idle = idle;
             zero = at;
-            all = λ id never_so. waits id (ends.sends key).queued (waits_before few) (few_queued few) (resets id never_so) (before.all id never_so);
+            all = λ id never_so. waits id (ends.sends key).queued (waits_before few) (few_queued few) (resets.never id never_so) (before.all id never_so);
           }
       go before (begins_first begun opening linked) =
           absurd (never (identity_of begun.my begun.held) (subst (λ (l : List Effect). HasEffect (holds (identity_of begun.my begun.held)) (after_effects l past)) (sym begun.noted)
@@ -280,12 +280,12 @@ module _ (options : Options) (ends : Ends) (e : Endpoint) (queued : List Message
       → TakesOver past their_past e input (identity_of (other_begun e input o collision).my (other_begun e input o collision).held)
       → (ends.firsts (sender_key e.core) ≡ collision.opened.link.my.first_tsn → (ends.sends (sender_key e.core)).asking ≡ nothing_asked
       → Outlasts options (ends.firsts (sender_key e.core)) options.max_receiver_window_buffer_size (direction_of_ends (ends.sends (sender_key e.core)) (ends.gets (sender_key e.core))) (taken_turn e input o) collision)
-      → AreEnds ends.never_resets seen options (sending_side o.after (queued_after e input queued) (after_effects o.effects past) (packets ++ packets_of_events o.events)) (receiving_side d their_past reading)
+      → AreEnds ends.calls seen options (sending_side o.after (queued_after e input queued) (after_effects o.effects past) (packets ++ packets_of_events o.events)) (receiving_side d their_past reading)
   unfolding goes_so
   replaces follows may turn same collision takes later =
       let none : queued_after e input [] ≡ [] = queues_none (queued_after e input []) (ends.sends (sender_key e.core)).queued (sym (input_adds e input (ends.sends (sender_key e.core)).queued) ∙ same) in
       let stays : queued_after e input queued ≡ queued = input_adds e input queued ∙ ap (λ (l : List Message). l ++ queued) none in
-      subst (λ (l : List Message). AreEnds ends.never_resets seen options (sending_side o.after l (after_effects o.effects past) (packets ++ packets_of_events o.events)) (receiving_side d their_past reading)) (sym stays)
+      subst (λ (l : List Message). AreEnds ends.calls seen options (sending_side o.after l (after_effects o.effects past) (packets ++ packets_of_events o.events)) (receiving_side d their_past reading)) (sym stays)
       (outlasts_goes_on options ends e queued past packets d their_past reading h input o w little (goes_so collision takes) later (λ each has. holds_mean e input o each may turn has) seen reported follows)
 
   -- Where it takes the place of the one that is there, what was sent goes on.
@@ -312,7 +312,7 @@ module _ (options : Options) (ends : Ends) (e : Endpoint) (queued : List Message
 
   replaced : o.after.options.follow_rfc ≡ e.options.follow_rfc → IsCall input → Turn e input o → queued_after e input (ends.sends (sender_key e.core)).queued ≡ (ends.sends (sender_key e.core)).queued → (begun : BeginsAssociation e o) → IsOpening (content_of_input input)
       → identity_of_core o.after.core ≡ Some (identity_of begun.my begun.held) → TakesOver past their_past e input (identity_of begun.my begun.held)
-      → AreEnds ends.never_resets seen options (sending_side o.after (queued_after e input queued) (after_effects o.effects past) (packets ++ packets_of_events o.events)) (receiving_side d their_past reading)
+      → AreEnds ends.calls seen options (sending_side o.after (queued_after e input queued) (after_effects o.effects past) (packets ++ packets_of_events o.events)) (receiving_side d their_past reading)
   replaced follows may turn same begun opening linked takes =
       let there : GoesThere (content_of_input input) e o = collided begun opening takes turn in
       let one : identity_of begun.my begun.held ≡ there.collision.opened.link = one_link (identity_of begun.my begun.held) there.collision.opened.link linked there.collision.opened.linked in
@@ -356,9 +356,9 @@ module _ (options : Options) (ends : Ends) (e : Endpoint) (queued : List Message
           subst (λ (t : ℕ). ComesReported (HasReached (ends.gets t).first_tsn (ends.gets t).tracker) (content_of_input input)) (sym (link_tag e.core link linked))
           (came_back ends.gets their_past (packets_of_events seen) link.my.tag (content_of_input input) (h.sender.known link (h.mine link linked)).0 reported.heard (back link linked))
 
-  by_turn : length (queued_after e input queued) < 2 ^ 64 → o.after.options.follow_rfc ≡ e.options.follow_rfc → ResetsAs ends.never_resets input → IsCall input → Turn e input o → RefusesNone e o → CompletesPerformed their_past o
+  by_turn : length (queued_after e input queued) < 2 ^ 64 → o.after.options.follow_rfc ≡ e.options.follow_rfc → ResetsAs ends.calls (length queued) e input → IsCall input → Turn e input o → RefusesNone e o → CompletesPerformed their_past o
       → SenderTurns options (ends.firsts (sender_key e.core)) options.max_receiver_window_buffer_size (direction_of_ends (ends.sends (sender_key e.core)) (ends.gets (sender_key e.core))) e input o
-      → AreEnds ends.never_resets seen options (sending_side o.after (queued_after e input queued) (after_effects o.effects past) (packets ++ packets_of_events o.events)) (receiving_side d their_past reading)
+      → AreEnds ends.calls seen options (sending_side o.after (queued_after e input queued) (after_effects o.effects past) (packets ++ packets_of_events o.events)) (receiving_side d their_past reading)
   by_turn few follows resets may turn refuses completes_so (run_goes_on linked addressed kind' acknowledged between asking is grows fit run) =
       goes_on options ends e queued past packets d their_past reading h input o seen reported w (none_then may turn (h.mine, linked)) follows (unbegun_after few resets may turn) linked kind' addressed acknowledged asking
       (λ begun has. grows_stays between asking grows begun (between_stays o.effects (ends.sends (sender_key e.core)).asking between is begun has)) fit
@@ -374,7 +374,7 @@ module _ (options : Options) (ends : Ends) (e : Endpoint) (queued : List Message
       let stays : queued_after e input queued ≡ queued = input_adds e input queued ∙ ap (λ (l : List Message). l ++ queued) none in
       elim (new begun opening linked) [
         | inl is ↦
-            subst (λ (l : List Message). AreEnds ends.never_resets seen options (sending_side o.after l (after_effects o.effects past) (packets ++ packets_of_events o.events)) (receiving_side d their_past reading)) (sym stays)
+            subst (λ (l : List Message). AreEnds ends.calls seen options (sending_side o.after l (after_effects o.effects past) (packets ++ packets_of_events o.events)) (receiving_side d their_past reading)) (sym stays)
             (begins options ends e queued past packets d their_past reading h input o w little begun (λ each has. holds_mean e input o each may turn has) follows kind' seen reported is linked addressed shown fit later)
         | inr takes ↦ replaced follows may turn same begun opening linked takes
       ]
@@ -384,24 +384,32 @@ module _ (options : Options) (ends : Ends) (e : Endpoint) (queued : List Message
         | inr takes ↦ replaces follows may turn same collision takes later
       ]
 
-  -- The sender doesn't keep the streams that its user resets.
-  may_drop : ResetsAs ends.never_resets input → MayDrop input (ends.sends (sender_key e.core)).beginning
-  may_drop resets ids is = among_dropped ids (λ id named. h.dropping key id (resets_some id (named_by input ids id is ∙ named) (ends.never_resets id) refl))
+  -- The streams that its user resets may be reset.
+  may_drop : ResetsAs ends.calls (length queued) e input → MayDrop e input (length (ends.sends (sender_key e.core)).queued) (ends.sends (sender_key e.core)).beginning
+  may_drop resets accepted ids is =
+      among_resets ids
+      (λ id named. (
+      let does : resets_stream id input ≡ true = named_by input ids id is ∙ named in
+      record {
+        dropped = (h.dropping key).dropped id (resets_some id does (ends.calls.never id) refl);
+        asked = ap (λ (asks : ℕ → ℕ → Bool). asks id (length (ends.sends key).queued)) (h.dropping key).asks ∙ ap (ends.calls.asks id) h.sender.long ∙ resets.asks accepted id does;
+      }
+      ))
     where
-      resets_some : (id : ℕ) → resets_stream id input ≡ true → (b : Bool) → ends.never_resets id ≡ b → ends.never_resets id ≡ false
-      resets_some id does true never = absurd (let clash : true ≡ false = sym does ∙ resets id never in cc)
+      resets_some : (id : ℕ) → resets_stream id input ≡ true → (b : Bool) → ends.calls.never id ≡ b → ends.calls.never id ≡ false
+      resets_some id does true never = absurd (let clash : true ≡ false = sym does ∙ resets.never id never in cc)
       resets_some id does false not_never = not_never
 
       or_true : (b : Bool) → (b || true) ≡ true
       or_true true = refl
       or_true false = refl
 
-      among_dropped : (some : List ℕ) → ((id : ℕ) → is_named some id ≡ true → (ends.sends key).beginning.keeps id ≡ false) → AllByRecursion (λ id. (ends.sends key).beginning.keeps id ≡ false) some
-      among_dropped [] each = tt
-      among_dropped (id ∷ some) each = (each id (rw (eq-eqb id id refl) refl), among_dropped some (λ other named. each other (rw named (or_true (id == other)))))
+      among_resets : (some : List ℕ) → ((id : ℕ) → is_named some id ≡ true → MayReset (ends.sends key).beginning (length (ends.sends key).queued) id) → AllByRecursion (MayReset (ends.sends key).beginning (length (ends.sends key).queued)) some
+      among_resets [] each = tt
+      among_resets (id ∷ some) each = (each id (rw (eq-eqb id id refl) refl), among_resets some (λ other named. each other (rw named (or_true (id == other)))))
 
-  pub sender_turns : ((link : AssociationIdentity) → identity_of_core e.core ≡ Some link → CameBack (packets_of_events seen) link.my.tag (content_of_input input)) → length (queued_after e input queued) < 2 ^ 64 → RefusesNone e o → ResetsAs ends.never_resets input → CompletesPerformed their_past o → o.after.options.follow_rfc ≡ e.options.follow_rfc → IsCall input → Turn e input o
-      → AreEnds ends.never_resets seen options (sending_side o.after (queued_after e input queued) (after_effects o.effects past) (packets ++ packets_of_events o.events)) (receiving_side d their_past reading)
+  pub sender_turns : ((link : AssociationIdentity) → identity_of_core e.core ≡ Some link → CameBack (packets_of_events seen) link.my.tag (content_of_input input)) → length (queued_after e input queued) < 2 ^ 64 → RefusesNone e o → ResetsAs ends.calls (length queued) e input → CompletesPerformed their_past o → o.after.options.follow_rfc ≡ e.options.follow_rfc → IsCall input → Turn e input o
+      → AreEnds ends.calls seen options (sending_side o.after (queued_after e input queued) (after_effects o.effects past) (packets ++ packets_of_events o.events)) (receiving_side d their_past reading)
   sender_turns back few refuses resets completes_so follows may turn =
       by_turn few follows resets may turn refuses completes_so
       (senders_go_on options (ends.firsts key) options.max_receiver_window_buffer_size now e input o (h.runs key) (h.small key) h.sender.queues_are h.asks

@@ -14,7 +14,8 @@ use Rattle.dcsctp_delivery_sending.specs.Places.{HasEntry}
 use Rattle.dcsctp_delivery_directions.specs.Directions.{DirectionRun}
 use Rattle.dcsctp_delivery_directions.proofs.Directions.{directions_deliver}
 use Rattle.dcsctp_delivery_associations.specs.Ends.{ReceivingEnd, direction_of_ends, Ends, HadBoth, unbegun_end, Between, sending_side, receiving_side}
-use Rattle.dcsctp_delivery_associations.specs.Reads.{Tags, ReadMessage, Reading, with_tag, with_key, AreOfLink, AllOfLinks}
+use Rattle.dcsctp_delivery_associations.specs.Reads.{Tags, ReadMessage, ReportedReset, Reading, with_tag, with_key, AreOfLink, AllOfLinks}
+use Rattle.dcsctp_delivery_epochs.proofs.CutsAsked.{none_performed}
 use Rattle.dcsctp_delivery_associations.proofs.InOrder.{read_none}
 
 -- No two associations have peers of one tag.
@@ -142,9 +143,10 @@ module _ (options : Options) (ends : Ends) (e : Endpoint) (queued : List Message
               let one : there.0 ≡ here.0 = theirs_differ there.0 here.0 there.1 here.1 (there.2 ∙ same ∙ sym here.2) in
               sym there.3 ∙ ap (λ (l : AssociationIdentity). l.my.tag) one ∙ here.3 ∙ is
 
-  -- Where both are in one association, what was read under the one tag was read of the other.
-  pub read_of_both : (key own : ℕ) → HadBoth past key own → (theirs : AssociationIdentity) → HasEffect (holds theirs) their_past → theirs.peer.tag ≡ key → theirs.my.tag ≡ own → with_tag own reading.reads ≡ with_key key reading.reads
-  read_of_both key own both theirs held peer_is own_is = same_reads reading.reads own key (λ r has. (to_peer r has, to_own r has))
+  -- Where both are in one association, what was read under the one tag was read of the other, also of what was read earlier.
+  pub read_among : (reads : List ReadMessage) → ((r : ReadMessage) → HasEntry r reads → HasEntry r reading.reads) → (key own : ℕ) → HadBoth past key own → (theirs : AssociationIdentity) → HasEffect (holds theirs) their_past → theirs.peer.tag ≡ key → theirs.my.tag ≡ own
+      → with_tag own reads ≡ with_key key reads
+  read_among reads within key own both theirs held peer_is own_is = same_reads reads own key (λ r has. (to_peer r (within r has), to_own r (within r has)))
     where
       to_peer : (r : ReadMessage) → HasEntry r reading.reads → r.tags.own ≡ own → r.tags.peer ≡ key
       to_peer r has same =
@@ -157,3 +159,54 @@ module _ (options : Options) (ends : Ends) (e : Endpoint) (queued : List Message
           let there = crossed r has in
           let one : there.0 ≡ theirs = theirs_differ there.0 theirs there.1 held (there.2 ∙ same ∙ sym peer_is) in
           sym there.3 ∙ ap (λ (l : AssociationIdentity). l.my.tag) one ∙ own_is
+
+  pub read_of_both : (key own : ℕ) → HadBoth past key own → (theirs : AssociationIdentity) → HasEffect (holds theirs) their_past → theirs.peer.tag ≡ key → theirs.my.tag ≡ own → with_tag own reading.reads ≡ with_key key reading.reads
+  read_of_both = read_among reading.reads (λ r has. has)
+
+  -- ---- what was reset
+
+  -- A reset that was reported was performed in an association that crosses.
+  pub record IsCrossedReset (report : ReportedReset) : Type 0 where
+    pub link : AssociationIdentity
+    pub held : HasEffect (holds link) their_past
+    pub peer_is : link.peer.tag ≡ report.tags.peer
+    pub own_is : link.my.tag ≡ report.tags.own
+    pub both : HadBoth past report.tags.peer report.tags.own
+    pub performed : HasEntry report.reset (ends.gets report.tags.peer).performed
+
+  pub crossed_reset : (report : ReportedReset) → HasEntry report reading.resets → IsCrossedReset report
+  crossed_reset report has = by_link (h.receiver.were_reset report has).was_of
+    where
+      performed : HasEntry report.reset (ends.gets report.tags.peer).performed
+      performed = (h.receiver.were_reset report has).performed
+
+      none_before : report.tags.peer ≡ 0 → ⊥
+      none_before zero =
+          elim (h.receiver.begun 0) [
+            | inl new ↦ subst (λ (g : ReceivingEnd). HasEntry report.reset g.performed) (ap ends.gets zero ∙ new) performed
+            | inr had ↦ had.some refl
+          ]
+
+      by_link : AreOfLink their_past report.tags → IsCrossedReset report
+      by_link (inl none) = absurd (none_before (ap (λ (t : Tags). t.peer) none))
+      by_link (inr (link, held, is)) =
+          elim (h.alone report.tags.peer) [
+            | inl met ↦
+                (let one : met.link ≡ link = theirs_differ met.link link met.held held (met.tag_is ∙ ap (λ (t : Tags). t.peer) is) in
+                record {
+                  link = link;
+                  held = held;
+                  peer_is = ap (λ (t : Tags). t.peer) (sym is);
+                  own_is = ap (λ (t : Tags). t.own) (sym is);
+                  both = subst (HadBoth past report.tags.peer) (ap (λ (l : AssociationIdentity). l.my.tag) one ∙ ap (λ (t : Tags). t.own) (sym is)) met.both;
+                  performed = performed;
+                })
+            | inr run ↦
+                absurd (subst (HasEntry report.reset)
+                (none_performed options (ends.firsts report.tags.peer) options.max_receiver_window_buffer_size (direction_of_ends (unbegun_end options) (ends.gets report.tags.peer)) run refl) performed)
+          ]
+
+  -- Two tags of the sender whose peers have one tag are one.
+  pub one_key : (one two own : ℕ) → HadBoth past one own → HadBoth past two own → one ≡ two
+  one_key one two own first second =
+      sym first.tag_is ∙ ap (λ (l : AssociationIdentity). l.my.tag) (mine_differ first.link second.link first.held second.held (first.peer_is ∙ sym second.peer_is)) ∙ second.tag_is

@@ -26,14 +26,14 @@ use Rattle.dcsctp_delivery_sending.specs.Losing.{AllWaitOn}
 use Rattle.dcsctp_delivery_sending.specs.Flushes.{NoData}
 use Rattle.dcsctp_delivery_sending.specs.ChunkCounts.{chunks_among_packets, chunks_to}
 use Rattle.dcsctp_delivery_sending.specs.Marking.{WaitsNoLonger, FindsMarked, IsMarked}
-use Rattle.dcsctp_delivery_directions.specs.Directions.{Direction, Beginning, HasReached, BeginsAs, Asking, nothing_asked, DirectionRun}
+use Rattle.dcsctp_delivery_directions.specs.Directions.{PerformedReset, Direction, Beginning, HasReached, BeginsAs, Asking, nothing_asked, DirectionRun}
 use Rattle.dcsctp_delivery_directions.specs.Requests.{requests_among_packets, requests_to}
 use Rattle.dcsctp_delivery_turns.specs.Asking.{Own, own_of, AsksFit, SomeFit}
 use Rattle.dcsctp_delivery_turns.specs.Actions.{NoEnd, peer_tag}
 use Rattle.dcsctp_delivery_turns.specs.Reports.{AllReportSo, NoReports}
 use Rattle.dcsctp_delivery_turns.specs.Unbegun.{IsAtZero}
 use Rattle.dcsctp_delivery_turns.specs.Untouched.{IsTransferUntouched, EchoesMaker}
-use Rattle.dcsctp_delivery_associations.specs.Reads.{Reading, tags_of, with_key, AreOfLink, AllOfLinks}
+use Rattle.dcsctp_delivery_associations.specs.Reads.{ReportedReset, Reading, tags_of, with_key, AreOfLink, AllOfLinks}
 
 -- ---- the two ends of a direction
 
@@ -50,6 +50,7 @@ pub record ReceivingEnd : Type 0 where
   pub tracker : TrackerState
   pub reassembly : ReassemblyState
   pub read : List MessageContent
+  pub performed : List PerformedReset
 
 abbrev pub direction_of_ends : SendingEnd → ReceivingEnd → Direction
 direction_of_ends sends gets =
@@ -62,13 +63,20 @@ direction_of_ends sends gets =
       tracker = gets.tracker;
       reassembly = gets.reassembly;
       read = gets.read;
+      performed = gets.performed;
       asking = sends.asking;
       beginning = sends.beginning;
     }
 
 -- one at which nothing was received yet
 abbrev pub new_end : Options → ℕ → ReceivingEnd
-new_end options first = record { first_tsn = first; tracker = new_tracker options first; reassembly = new_reassembly options.max_receiver_window_buffer_size (part_overhead options); read = [] }
+new_end options first = record { first_tsn = first; tracker = new_tracker options first; reassembly = new_reassembly options.max_receiver_window_buffer_size (part_overhead options); read = []; performed = [] }
+
+-- Which streams does the user of the sender never reset? And does it reset a stream when so many messages were queued, by a call that
+-- isn't refused?
+pub record ResetCalls : Type 0 where
+  pub never : ℕ → Bool
+  pub asks : ℕ → ℕ → Bool
 
 -- For each tag of the sender both ends, and its first TSN; the tag of its peer, and that of the peer before.
 pub record Ends : Type 0 where
@@ -77,8 +85,7 @@ pub record Ends : Type 0 where
   pub firsts : ℕ → ℕ
   pub latest : ℕ → ℕ
   pub former : ℕ → Option ℕ
-  -- Which streams does the user of the sender never reset?
-  pub never_resets : ℕ → Bool
+  pub calls : ResetCalls
 
 abbrev pub EndsRun : Options → Ends → Type 0
 EndsRun options ends = (tag : ℕ) → DirectionRun options (ends.firsts tag) options.max_receiver_window_buffer_size (direction_of_ends (ends.sends tag) (ends.gets tag))
@@ -134,11 +141,11 @@ pub record PlaceWasTaken (past : List Effect) (tag former latest : ℕ) : Type 0
   pub other : former ≢ latest
 
 -- The sender had no association yet, and has numbered no message. All that was queued on a stream waits, unless that is reset.
-pub record IsUnbegun (never_resets : ℕ → Bool) (queued : List Message) (e : Endpoint) : Type 0 where
+pub record IsUnbegun (calls : ResetCalls) (queued : List Message) (e : Endpoint) : Type 0 where
   pub unlinked : identity_of_core e.core ≡ None
   pub idle : e.queues.transfer ≡ None
   pub zero : IsAtZero e.queues.queue
-  pub all : (id : ℕ) → never_resets id ≡ true → AllWaitOn id queued e.queues.queue.streams
+  pub all : (id : ℕ) → calls.never id ≡ true → AllWaitOn id queued e.queues.queue.streams
 
 abbrev pub NeverHeld : List Effect → Type 0
 NeverHeld past = (link : AssociationIdentity) → HasEffect (holds link) past → ⊥
@@ -153,12 +160,13 @@ abbrev pub NumbersFromZero : Endpoint → List Effect → ℕ → Type 0
 NumbersFromZero e past tag = (e.options.follow_rfc ≡ true) ⊎ IsOnlyOwn past tag
 
 -- A sender that begins so keeps these streams,
-abbrev pub KeepsThese : (ℕ → Bool) → Beginning → Type 0
-KeepsThese never_resets beginning = (id : ℕ) → never_resets id ≡ true → beginning.keeps id ≡ true
+abbrev pub KeepsThese : ResetCalls → Beginning → Type 0
+KeepsThese calls beginning = (id : ℕ) → calls.never id ≡ true → beginning.keeps id ≡ true
 
--- and no other.
-abbrev pub KeepsOnlyThese : (ℕ → Bool) → Beginning → Type 0
-KeepsOnlyThese never_resets beginning = (id : ℕ) → never_resets id ≡ false → beginning.keeps id ≡ false
+-- and no other, where the user asks for resets as it does.
+pub record KeepsOnlyThese (calls : ResetCalls) (beginning : Beginning) : Type 0 where
+  pub dropped : (id : ℕ) → calls.never id ≡ false → beginning.keeps id ≡ false
+  pub asks : beginning.asks ≡ calls.asks
 
 -- Nothing was sent at this end yet.
 pub record Awaits (sends : SendingEnd) : Type 0 where
@@ -270,12 +278,18 @@ abbrev pub LeavesReady : (ℕ → ReceivingEnd) → ℕ → List MessageContent 
 LeavesReady gets last left None = (left ≡ []) ⊎ ((gets last).reassembly.incoming.ready ≡ left)
 LeavesReady gets last left (Some transfer) = left ≡ []
 
+-- The reset was performed in an association that was there.
+pub record WasReset (gets : ℕ → ReceivingEnd) (past : List Effect) (report : ReportedReset) : Type 0 where
+  pub performed : places.HasEntry report.reset (gets report.tags.peer).performed
+  pub was_of : AreOfLink past report.tags
+
 pub record Receiver (options : Options) (ends : Ends) (e : Endpoint) (past : List Effect) (reading : Reading) : Type 0 where
   pub fits : SomeFit (own_of e)
   pub current : (transfer : Transfer) → e.queues.transfer ≡ Some transfer → IsCurrentEnd ends e past transfer
   pub left : LeavesReady ends.gets reading.last.peer e.left e.queues.transfer
   pub last : (link : AssociationIdentity) → identity_of_core e.core ≡ Some link → reading.last ≡ tags_of link
   pub were_read : (tag : ℕ) → with_key tag reading.reads ≡ (ends.gets tag).read
+  pub were_reset : (report : ReportedReset) → places.HasEntry report reading.resets → WasReset ends.gets past report
   pub begun : (tag : ℕ) → (ends.gets tag ≡ new_end options (ends.firsts tag)) ⊎ HadTag past tag (ends.firsts tag)
   pub last_of : AreOfLink past reading.last
   pub reads_of : AllOfLinks past reading.reads
@@ -308,7 +322,7 @@ unbegun_end options =
       acknowledged = 0;
       sent = [];
       asking = nothing_asked;
-      beginning = record { from_zero = true; keeps = λ id. false };
+      beginning = record { from_zero = true; keeps = λ id. false; asks = λ id count. false };
     }
 
 -- What was received from a tag whose associations don't cross needs no sender.
@@ -390,8 +404,8 @@ pub record Between (options : Options) (ends : Ends) (from : SendingSide) (to : 
   pub idle : identity_of_core from.endpoint.core ≡ None → from.endpoint.queues.transfer ≡ None
   pub asks : AsksFit (ends.firsts (sender_key from.endpoint.core)) (own_of from.endpoint) (ends.sends (sender_key from.endpoint.core)).asking
   pub numbered : (tag : ℕ) → tag ≢ 0 → NumbersFromZero from.endpoint from.past tag → (ends.sends tag).beginning.from_zero ≡ true
-  pub kept : (tag : ℕ) → tag ≢ 0 → IsOnlyOwn from.past tag → KeepsThese ends.never_resets (ends.sends tag).beginning
-  pub dropping : (tag : ℕ) → KeepsOnlyThese ends.never_resets (ends.sends tag).beginning
-  pub unbegun : NeverHeld from.past → IsUnbegun ends.never_resets (ends.sends (sender_key from.endpoint.core)).queued from.endpoint
+  pub kept : (tag : ℕ) → tag ≢ 0 → IsOnlyOwn from.past tag → KeepsThese ends.calls (ends.sends tag).beginning
+  pub dropping : (tag : ℕ) → KeepsOnlyThese ends.calls (ends.sends tag).beginning
+  pub unbegun : NeverHeld from.past → IsUnbegun ends.calls (ends.sends (sender_key from.endpoint.core)).queued from.endpoint
   pub receiver : Receiver options ends to.endpoint to.past to.reading
   pub alone : (tag : ℕ) → MetOrAlone options ends from.past to.past tag

@@ -15,6 +15,7 @@ use Rattle.dcsctp_delivery_order.specs.PlainDirections.{FewOnEachStream}
 use Rattle.dcsctp_delivery_order.specs.Delivered.{AreDeliveredInOrder, AreDeliveredWithoutGaps}
 use Rattle.dcsctp_delivery_order.specs.Streams.{AreDeliveredByStream, AreDeliveredOnStreams}
 use Rattle.dcsctp_delivery_order.specs.Complete.{HasNothingLeft, AreAllDelivered}
+use Rattle.dcsctp_delivery_epochs.specs.Asked.{AreCutAsAsked}
 use Rattle.dcsctp_delivery_associations.specs.Ends.{Ends, IsOnlyOwn, NumbersFromZero, chunks_before, Between, sending_side, receiving_side}
 use Rattle.dcsctp_delivery_associations.specs.Reads.{Reading, with_key}
 
@@ -33,6 +34,14 @@ EndsDeliverInOrder =
     → Between options ends (sending_side e queued past packets) (receiving_side other their_past reading) → length queued < 2 ^ 64 → ((tag : ℕ) → chunks_before (ends.former tag) packets + chunks_to (ends.latest tag) packets < 2 ^ 30)
     → (tag : ℕ) → NumbersFromZero e past tag → InterleavesUnder past tag → AreDeliveredInOrder queued (with_key tag reading.reads)
 
+-- And each reset of streams that the receiver has performed was asked for by the sender's user: it separates what was queued before
+-- from what was queued since.
+abbrev pub EndsCutAsAsked : Type 0
+EndsCutAsAsked =
+    (options : Options) (ends : Ends) (e : Endpoint) (queued : List Message) (past : List Effect) (packets : List Emission) (other : Endpoint) (their_past : List Effect) (reading : Reading)
+    → Between options ends (sending_side e queued past packets) (receiving_side other their_past reading) → length queued < 2 ^ 64 → ((tag : ℕ) → chunks_before (ends.former tag) packets + chunks_to (ends.latest tag) packets < 2 ^ 30)
+    → (tag : ℕ) → NumbersFromZero e past tag → InterleavesUnder past tag → AreCutAsAsked ends.calls.asks (ends.gets tag).performed queued (with_key tag reading.reads)
+
 -- Also where they don't it holds, if besides no message may be abandoned, or few ordered ones were queued on each stream; and no
 -- request to reset streams was sent there.
 abbrev pub EndsDeliverDataInOrder : Type 0
@@ -47,7 +56,7 @@ abbrev pub EndsDeliverByStream : Type 0
 EndsDeliverByStream =
     (options : Options) (ends : Ends) (e : Endpoint) (queued : List Message) (past : List Effect) (packets : List Emission) (other : Endpoint) (their_past : List Effect) (reading : Reading)
     → Between options ends (sending_side e queued past packets) (receiving_side other their_past reading) → length queued < 2 ^ 64 → ((tag : ℕ) → chunks_before (ends.former tag) packets + chunks_to (ends.latest tag) packets < 2 ^ 30)
-    → (tag : ℕ) → IsOnlyOwn past tag → InterleavesUnder past tag → AreDeliveredByStream ends.never_resets queued (with_key tag reading.reads)
+    → (tag : ℕ) → IsOnlyOwn past tag → InterleavesUnder past tag → AreDeliveredByStream ends.calls.never queued (with_key tag reading.reads)
 
 -- The stream is never reset, and no message on it may be abandoned.
 pub record IsReliableKept (never_resets : ℕ → Bool) (queued : List Message) (id : ℕ) : Type 0 where
@@ -59,14 +68,14 @@ abbrev pub EndsDeliverOnStreams : Type 0
 EndsDeliverOnStreams =
     (these : ℕ → Bool) (options : Options) (ends : Ends) (e : Endpoint) (queued : List Message) (past : List Effect) (packets : List Emission) (other : Endpoint) (their_past : List Effect) (reading : Reading)
     → Between options ends (sending_side e queued past packets) (receiving_side other their_past reading) → length queued < 2 ^ 64 → ((tag : ℕ) → chunks_before (ends.former tag) packets + chunks_to (ends.latest tag) packets < 2 ^ 30) → options.max_receiver_window_buffer_size < 2 ^ 32
-    → ((id : ℕ) → these id ≡ true → IsReliableKept ends.never_resets queued id) → (tag : ℕ) → IsOnlyOwn past tag → AreDeliveredOnStreams these queued (with_key tag reading.reads)
+    → ((id : ℕ) → these id ≡ true → IsReliableKept ends.calls.never queued id) → (tag : ℕ) → IsOnlyOwn past tag → AreDeliveredOnStreams these queued (with_key tag reading.reads)
 
 -- So it is of all, if no stream is reset.
 abbrev pub EndsDeliverWithoutGaps : Type 0
 EndsDeliverWithoutGaps =
     (options : Options) (ends : Ends) (e : Endpoint) (queued : List Message) (past : List Effect) (packets : List Emission) (other : Endpoint) (their_past : List Effect) (reading : Reading)
     → Between options ends (sending_side e queued past packets) (receiving_side other their_past reading) → length queued < 2 ^ 64 → ((tag : ℕ) → chunks_before (ends.former tag) packets + chunks_to (ends.latest tag) packets < 2 ^ 30) → options.max_receiver_window_buffer_size < 2 ^ 32
-    → AreUnlimited queued → ((id : ℕ) → ends.never_resets id ≡ true) → (tag : ℕ) → IsOnlyOwn past tag → AreDeliveredWithoutGaps queued (with_key tag reading.reads)
+    → AreUnlimited queued → ((id : ℕ) → ends.calls.never id ≡ true) → (tag : ℕ) → IsOnlyOwn past tag → AreDeliveredWithoutGaps queued (with_key tag reading.reads)
 
 -- ---- all of it
 
@@ -89,4 +98,4 @@ abbrev pub EndsArrive : Type 0
 EndsArrive =
     (these : ℕ → Bool) (options : Options) (ends : Ends) (e : Endpoint) (queued : List Message) (past : List Effect) (packets : List Emission) (other : Endpoint) (their_past : List Effect) (reading : Reading)
     → Between options ends (sending_side e queued past packets) (receiving_side other their_past reading) → length queued < 2 ^ 64 → ((tag : ℕ) → chunks_before (ends.former tag) packets + chunks_to (ends.latest tag) packets < 2 ^ 30) → options.max_receiver_window_buffer_size < 2 ^ 32
-    → ((id : ℕ) → these id ≡ true → IsReliableKept ends.never_resets queued id) → (through : AreThrough e other) → IsOnlyOwn past through.link.my.tag → AreAllDelivered these queued (with_key through.link.my.tag reading.reads)
+    → ((id : ℕ) → these id ≡ true → IsReliableKept ends.calls.never queued id) → (through : AreThrough e other) → IsOnlyOwn past through.link.my.tag → AreAllDelivered these queued (with_key through.link.my.tag reading.reads)

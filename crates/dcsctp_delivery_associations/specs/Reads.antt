@@ -1,10 +1,14 @@
 -- What the user of a socket reads, in all its associations and after each has ended: each message with
 -- both tags of its association.
-use Rattle.std.specs.Prelude.{◌≡◌, ◌⊎◌, ◌==◌, if◌then◌else◌, ℕ, Option, None, Some, List, [], ◌∷◌, ◌++◌}
+use Rattle.std.specs.Prelude.{◌≡◌, ◌⊎◌, ◌==◌, ◌+◌, if◌then◌else◌, ℕ, Option, None, Some, List, [], ◌∷◌, ◌++◌, length}
 use Rattle.std.specs.List.{AllByRecursion}
 use Rattle.dcsctp_spec_lemmas.specs.spec.endpoint.DataOutcomes.{ready_or_left}
 use Rattle.dcsctp_spec_lemmas.specs.spec.endpoint.Endpoint.{Endpoint}
+use Rattle.dcsctp_spec_lemmas.specs.spec.endpoint.Event.{Event, incoming_stream_reset}
+use Rattle.dcsctp_spec_lemmas.specs.spec.endpoint.Outcome.{Outcome}
 use Rattle.dcsctp_spec_lemmas.specs.spec.endpoint.Turn.{Input, user_takes}
+use Rattle.dcsctp_spec_lemmas.specs.spec.Packet.{Emission}
+use Rattle.dcsctp_delivery_directions.specs.Directions.{PerformedReset}
 use Rattle.dcsctp_spec_lemmas.specs.spec.association.Effect.{AssociationIdentity, Effect, holds, identity_of_core}
 use Rattle.dcsctp_spec_runs.specs.Past.{HasEffect}
 use Rattle.dcsctp_spec_lemmas.specs.types.queues.Messages.{MessageContent}
@@ -36,23 +40,6 @@ abbrev pub tagged_after : Tags → Endpoint → Input → List ReadMessage → L
 tagged_after tags e user_takes reads = and_first tags (ready_or_left e.left e.queues.transfer) reads
 tagged_after tags e input reads = reads
 
--- What was read, and the tags of the association that is there or was the last.
-pub record Reading : Type 0 where
-  pub reads : List ReadMessage
-  pub last : Tags
-
-abbrev pub nothing_read : Reading
-nothing_read = record { reads = []; last = no_tags }
-
--- the tags of this association, or those before if there is none
-abbrev pub tags_or : Tags → Option AssociationIdentity → Tags
-tags_or last None = last
-tags_or last (Some link) = tags_of link
-
--- with what a turn reads that ends at this endpoint: a message that an association left counts as read in it
-abbrev pub reading_after : Endpoint → Input → Endpoint → Reading → Reading
-reading_after e input after reading = record { reads = tagged_after reading.last e input reading.reads; last = tags_or reading.last (identity_of_core after.core) }
-
 -- those of the association with this own tag
 abbrev pub with_tag : ℕ → List ReadMessage → List MessageContent
 with_tag tag [] = []
@@ -62,6 +49,44 @@ with_tag tag (read ∷ reads) = if read.tags.own == tag then read.message ∷ wi
 abbrev pub with_key : ℕ → List ReadMessage → List MessageContent
 with_key key [] = []
 with_key key (read ∷ reads) = if read.tags.peer == key then read.message ∷ with_key key reads else with_key key reads
+
+-- A reset of streams that the user was told of: the tags of the association, which streams, and how many of its messages were read by
+-- then, or could be.
+pub record ReportedReset : Type 0 where
+  pub tags : Tags
+  pub reset : PerformedReset
+
+-- What was read, the tags of the association that is there or was the last, and the resets that were reported, newest first.
+pub record Reading : Type 0 where
+  pub reads : List ReadMessage
+  pub last : Tags
+  pub resets : List ReportedReset
+
+abbrev pub nothing_read : Reading
+nothing_read = record { reads = []; last = no_tags; resets = [] }
+
+-- the tags of this association, or those before if there is none
+abbrev pub tags_or : Tags → Option AssociationIdentity → Tags
+tags_or last None = last
+tags_or last (Some link) = tags_of link
+
+-- with the resets that these events report, in an association with these tags of which so many messages were read, or can be
+abbrev pub reported_with : Tags → ℕ → List (Event Emission) → List ReportedReset → List ReportedReset
+reported_with tags index [] resets = resets
+reported_with tags index (incoming_stream_reset streams ∷ events) resets = record { tags = tags; reset = record { streams = streams; index = index } } ∷ reported_with tags index events resets
+reported_with tags index (event ∷ events) resets = reported_with tags index events resets
+
+-- how many messages of the association that is there or was the last were read once this turn was taken, or can be
+abbrev pub reached_index : Endpoint → Input → Outcome → Reading → ℕ
+reached_index e input o reading = length (with_key reading.last.peer (tagged_after reading.last e input reading.reads)) + length (ready_or_left o.after.left o.after.queues.transfer)
+
+abbrev pub resets_after : Endpoint → Input → Outcome → Reading → List ReportedReset
+resets_after e input o reading = reported_with reading.last (reached_index e input o reading) o.events reading.resets
+
+-- with what this turn reads and reports: a message that an association left counts as read in it
+abbrev pub reading_after : Endpoint → Input → Outcome → Reading → Reading
+reading_after e input o reading =
+    record { reads = tagged_after reading.last e input reading.reads; last = tags_or reading.last (identity_of_core o.after.core); resets = resets_after e input o reading }
 
 -- all of them, without the tags
 abbrev pub messages_of : List ReadMessage → List MessageContent

@@ -1,6 +1,6 @@
 //! The laws of this crate.
 
-ghost use Rattle.dcsctp_delivery_associations.specs.InOrder.{EndsArrive, EndsDeliverByStream, EndsDeliverOnStreams, EndsDeliverDataInOrder, EndsDeliverWithoutGaps, EndsDeliverInOrder};
+ghost use Rattle.dcsctp_delivery_associations.specs.InOrder.{EndsArrive, EndsCutAsAsked, EndsDeliverByStream, EndsDeliverOnStreams, EndsDeliverDataInOrder, EndsDeliverWithoutGaps, EndsDeliverInOrder};
 ghost use Rattle.dcsctp_delivery_associations.specs.Laws.{EndsBegin, EndsDeliver, ReceiversTurn, SendersResets, SendersTurn};
 
 /// Two sockets that were just made have nothing between them.
@@ -41,6 +41,13 @@ pub fn ends_deliver()
 pub fn ends_deliver_in_order()
     ensures interleaved { EndsDeliverInOrder }
     ensures plain { EndsDeliverDataInOrder }
+{}
+
+/// Where messages interleave, and the numbers of each stream begin at 0, each reset of streams that the receiver has
+/// performed was asked for by the sender's user, and separates what was queued before from what was queued since (RFC
+/// 6525, sections 5.1.2 and 5.2.2).
+pub fn ends_cut_as_asked()
+    ensures { EndsCutAsAsked }
 {}
 
 /// Where the sender had one own tag, what was read of a stream's ordered messages is a prefix of what was queued: none

@@ -6,6 +6,6 @@
 mod laws;
 
 pub use laws::{
-    ends_begin, ends_deliver, ends_deliver_in_order, ends_deliver_without_gaps, receivers_turn,
-    senders_resets, senders_turn,
+    ends_begin, ends_cut_as_asked, ends_deliver, ends_deliver_in_order, ends_deliver_without_gaps,
+    receivers_turn, senders_resets, senders_turn,
 };

@@ -15,7 +15,7 @@ use Rattle.dcsctp_spec.specs.queues.Transfer.{Transfer, part_overhead, transfer_
 use Rattle.dcsctp_delivery_sending.specs.Places.{HasEntry}
 use Rattle.dcsctp_delivery_sending.specs.Flushes.{begun_reset_of}
 use Rattle.dcsctp_delivery_directions.proofs.Calm.{none_has}
-use Rattle.dcsctp_delivery_directions.specs.Directions.{Direction, Asking, asking_with, BeginsDirection, DirectionStep, queues, sets, prepares, commits, rolls_back, flushes, resends, resends_nothing, speaks, asks_again, renews, turns_aside, acknowledges, loses, receives, forwards, receives_interleaved, forwards_interleaved, tracks, defers, performs, performs_earlier, resets, takes, DirectionRun, begins, goes_on, starts}
+use Rattle.dcsctp_delivery_directions.specs.Directions.{Direction, PerformedReset, Asking, asking_with, BeginsDirection, DirectionStep, queues, sets, prepares, commits, rolls_back, flushes, resends, resends_nothing, speaks, asks_again, renews, turns_aside, acknowledges, loses, receives, forwards, receives_interleaved, forwards_interleaved, tracks, defers, performs, performs_earlier, resets, takes, DirectionRun, begins, goes_on, starts}
 
 -- ---- nothing was received
 
@@ -25,6 +25,7 @@ pub record HasReceivedNothing (options : Options) (first size : ℕ) (direction 
   pub ranges : direction.tracker.ranges ≡ (new_tracker options first).ranges
   pub reassembly : direction.reassembly ≡ new_reassembly size (part_overhead options)
   pub read : direction.read ≡ []
+  pub performed : direction.performed ≡ []
 
 -- Nothing was sent, and no reset of streams was asked for.
 pub record HasSentNothing (direction : Direction) : Type 0 where
@@ -86,25 +87,25 @@ module _ (options : Options) (first size : ℕ) where
       (let clash : ◌≡◌ {A = List MessageContent} [] (message ∷ messages) = sym (ap (λ (r : ReassemblyState). r.incoming.ready) h.reassembly) ∙ ready in cc)
 
   nothing_after : (old direction : Direction) → DirectionStep old direction → HasSentNothing old → Nothing old → Nothing direction
-  nothing_after old _ (queues now sending fits some) s h = record { cumulative = h.cumulative; ranges = h.ranges; reassembly = h.reassembly; read = h.read }
-  nothing_after old _ (sets setting fits) s h = record { cumulative = h.cumulative; ranges = h.ranges; reassembly = h.reassembly; read = h.read }
-  nothing_after old _ (prepares ids fit kept) s h = record { cumulative = h.cumulative; ranges = h.ranges; reassembly = h.reassembly; read = h.read }
-  nothing_after old _ (commits go_on) s h = record { cumulative = h.cumulative; ranges = h.ranges; reassembly = h.reassembly; read = h.read }
-  nothing_after old _ (rolls_back unmixed) s h = record { cumulative = h.cumulative; ranges = h.ranges; reassembly = h.reassembly; read = h.read }
-  nothing_after old _ (flushes e draft answers same no_data allowed) s h = record { cumulative = h.cumulative; ranges = h.ranges; reassembly = h.reassembly; read = h.read }
-  nothing_after old _ (resends now room transfer left tsns chunks emission known sends are contents) s h = record { cumulative = h.cumulative; ranges = h.ranges; reassembly = h.reassembly; read = h.read }
-  nothing_after old _ (resends_nothing now room transfer left tsns known sends) s h = record { cumulative = h.cumulative; ranges = h.ranges; reassembly = h.reassembly; read = h.read }
-  nothing_after old _ (speaks emission no_data) s h = record { cumulative = h.cumulative; ranges = h.ranges; reassembly = h.reassembly; read = h.read }
-  nothing_after old _ (asks_again emission begun was contents) s h = record { cumulative = h.cumulative; ranges = h.ranges; reassembly = h.reassembly; read = h.read }
-  nothing_after old _ (renews emission newest earlier number asks out contents) s h = record { cumulative = h.cumulative; ranges = h.ranges; reassembly = h.reassembly; read = h.read }
-  nothing_after old _ (turns_aside transfer new known same) s h = record { cumulative = h.cumulative; ranges = h.ranges; reassembly = h.reassembly; read = h.read }
-  nothing_after old _ (acknowledges now sack transfer new known valid reached does) s h = record { cumulative = h.cumulative; ranges = h.ranges; reassembly = h.reassembly; read = h.read }
-  nothing_after old _ (loses now transfer known) s h = record { cumulative = h.cumulative; ranges = h.ranges; reassembly = h.reassembly; read = h.read }
+  nothing_after old _ (queues now sending fits some) s h = record { cumulative = h.cumulative; ranges = h.ranges; reassembly = h.reassembly; read = h.read; performed = h.performed }
+  nothing_after old _ (sets setting fits) s h = record { cumulative = h.cumulative; ranges = h.ranges; reassembly = h.reassembly; read = h.read; performed = h.performed }
+  nothing_after old _ (prepares ids fit kept) s h = record { cumulative = h.cumulative; ranges = h.ranges; reassembly = h.reassembly; read = h.read; performed = h.performed }
+  nothing_after old _ (commits go_on) s h = record { cumulative = h.cumulative; ranges = h.ranges; reassembly = h.reassembly; read = h.read; performed = h.performed }
+  nothing_after old _ (rolls_back unmixed) s h = record { cumulative = h.cumulative; ranges = h.ranges; reassembly = h.reassembly; read = h.read; performed = h.performed }
+  nothing_after old _ (flushes e draft answers same no_data allowed) s h = record { cumulative = h.cumulative; ranges = h.ranges; reassembly = h.reassembly; read = h.read; performed = h.performed }
+  nothing_after old _ (resends now room transfer left tsns chunks emission known sends are contents) s h = record { cumulative = h.cumulative; ranges = h.ranges; reassembly = h.reassembly; read = h.read; performed = h.performed }
+  nothing_after old _ (resends_nothing now room transfer left tsns known sends) s h = record { cumulative = h.cumulative; ranges = h.ranges; reassembly = h.reassembly; read = h.read; performed = h.performed }
+  nothing_after old _ (speaks emission no_data) s h = record { cumulative = h.cumulative; ranges = h.ranges; reassembly = h.reassembly; read = h.read; performed = h.performed }
+  nothing_after old _ (asks_again emission begun was contents) s h = record { cumulative = h.cumulative; ranges = h.ranges; reassembly = h.reassembly; read = h.read; performed = h.performed }
+  nothing_after old _ (renews emission newest earlier number asks out contents) s h = record { cumulative = h.cumulative; ranges = h.ranges; reassembly = h.reassembly; read = h.read; performed = h.performed }
+  nothing_after old _ (turns_aside transfer new known same) s h = record { cumulative = h.cumulative; ranges = h.ranges; reassembly = h.reassembly; read = h.read; performed = h.performed }
+  nothing_after old _ (acknowledges now sack transfer new known valid reached does) s h = record { cumulative = h.cumulative; ranges = h.ranges; reassembly = h.reassembly; read = h.read; performed = h.performed }
+  nothing_after old _ (loses now transfer known) s h = record { cumulative = h.cumulative; ranges = h.ranges; reassembly = h.reassembly; read = h.read; performed = h.performed }
   nothing_after old _ (receives emission chunk theirs new was holds some same same' does) s h = absurd (no_entry old emission s.sent was)
   nothing_after old _ (forwards emission tsn streams theirs new was holds same same' does) s h = absurd (no_entry old emission s.sent was)
   nothing_after old _ (receives_interleaved emission chunk theirs new was holds some same same' does) s h = absurd (no_entry old emission s.sent was)
   nothing_after old _ (forwards_interleaved emission tsn streams theirs new was holds same same' does) s h = absurd (no_entry old emission s.sent was)
-  nothing_after old _ (tracks new cumulative ranges) s h = record { cumulative = cumulative ∙ h.cumulative; ranges = ranges ∙ h.ranges; reassembly = h.reassembly; read = h.read }
+  nothing_after old _ (tracks new cumulative ranges) s h = record { cumulative = cumulative ∙ h.cumulative; ranges = ranges ∙ h.ranges; reassembly = h.reassembly; read = h.read; performed = h.performed }
   nothing_after old _ (defers last_tsn streams some) s h = absurd (none_has old.asking.requests streams some s.asked)
   nothing_after old _ (performs newest earlier new asks kept reached own does) s h = absurd (none_asked newest earlier old.asking.requests s.asked asks)
   nothing_after old _ (performs_earlier newest earlier new asks kept reached own does) s h = absurd (none_asked newest earlier old.asking.requests s.asked asks)
@@ -113,7 +114,7 @@ module _ (options : Options) (first size : ℕ) where
 
   begun_nothing : (direction : Direction) → BeginsDirection options first size direction → Nothing direction
   begun_nothing direction b =
-      record { cumulative = ap (λ (t : TrackerState). t.cumulative) b.tracker; ranges = ap (λ (t : TrackerState). t.ranges) b.tracker; reassembly = b.reassembly; read = b.read }
+      record { cumulative = ap (λ (t : TrackerState). t.cumulative) b.tracker; ranges = ap (λ (t : TrackerState). t.ranges) b.tracker; reassembly = b.reassembly; read = b.read; performed = b.performed }
 
   -- Where nothing was sent nothing was received.
   pub unsent_nothing : (direction : Direction) → DirectionRun options first size direction → HasSentNothing direction → HasReceivedNothing options first size direction
@@ -123,19 +124,20 @@ module _ (options : Options) (first size : ℕ) where
       nothing_after old direction step before (unsent_nothing old run before)
   unsent_nothing _ (starts old queued sender_queues beginning run awaited fit waits flight zeros) s =
       let h = unsent_nothing old run (record { sent = s.sent; asked = s.asked }) in
-      record { cumulative = h.cumulative; ranges = h.ranges; reassembly = h.reassembly; read = h.read }
+      record { cumulative = h.cumulative; ranges = h.ranges; reassembly = h.reassembly; read = h.read; performed = h.performed }
 
 -- ---- another receiver
 
 -- The receiver that has received nothing may be another one that has received nothing.
-pub received_elsewhere : (options : Options) (first size : ℕ) (direction other : Direction) → DirectionRun options first size direction → direction.tracker ≡ new_tracker options first → direction.reassembly ≡ new_reassembly size (part_overhead options) → direction.read ≡ []
-    → HasReceivedNothing options first size other → DirectionRun options first size (record direction { tracker = other.tracker; reassembly = other.reassembly; read = other.read })
-received_elsewhere options first size direction other run tracker reassembly read h =
+pub received_elsewhere : (options : Options) (first size : ℕ) (direction other : Direction) → DirectionRun options first size direction → direction.tracker ≡ new_tracker options first → direction.reassembly ≡ new_reassembly size (part_overhead options) → direction.read ≡ [] → direction.performed ≡ []
+    → HasReceivedNothing options first size other → DirectionRun options first size (record direction { tracker = other.tracker; reassembly = other.reassembly; read = other.read; performed = other.performed })
+received_elsewhere options first size direction other run tracker reassembly read performed h =
     let moved : DirectionRun options first size (record direction { tracker = other.tracker }) =
     goes_on direction (record direction { tracker = other.tracker }) run
     (tracks other.tracker (h.cumulative ∙ ap (λ (t : TrackerState). t.cumulative) (sym tracker)) (h.ranges ∙ ap (λ (t : TrackerState). t.ranges) (sym tracker))) in
-    subst (λ (r : ReassemblyState). DirectionRun options first size (record direction { tracker = other.tracker; reassembly = r; read = other.read })) (reassembly ∙ sym h.reassembly)
-    (subst (λ (l : List MessageContent). DirectionRun options first size (record direction { tracker = other.tracker; read = l })) (read ∙ sym h.read) moved)
+    subst (λ (r : ReassemblyState). DirectionRun options first size (record direction { tracker = other.tracker; reassembly = r; read = other.read; performed = other.performed })) (reassembly ∙ sym h.reassembly)
+    (subst (λ (l : List MessageContent). DirectionRun options first size (record direction { tracker = other.tracker; read = l; performed = other.performed })) (read ∙ sym h.read)
+    (subst (λ (l : List PerformedReset). DirectionRun options first size (record direction { tracker = other.tracker; performed = l })) (performed ∙ sym h.performed) moved))
 
 -- ---- what is in flight goes to another peer
 

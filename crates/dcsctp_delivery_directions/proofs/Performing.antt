@@ -11,7 +11,7 @@ use Rattle.dcsctp_delivery_sending.specs.Places.{HasEntry}
 use Rattle.dcsctp_delivery_sending.specs.Log.{Mark}
 use Rattle.dcsctp_delivery_receiving.specs.Clear.{IsOwn}
 use Rattle.dcsctp_delivery_receiving.specs.Tracked.{tracked_number}
-use Rattle.dcsctp_delivery_directions.specs.Directions.{Direction, is_reset_reached}
+use Rattle.dcsctp_delivery_directions.specs.Directions.{reset_performed, Direction, is_reset_reached}
 use Rattle.dcsctp_delivery_sending.proofs.Counting.{told}
 use Rattle.dcsctp_delivery_sending.proofs.Chunks.{kinds_of}
 use Rattle.dcsctp_delivery_receiving.proofs.Reassembled.{left_keeps}
@@ -73,7 +73,7 @@ newest_of (mark ∷ marks) begun earlier is = record { mark = mark; earlier = ma
 
 unfoldable pub stepped_performs : (first : ℕ) (old : Direction) → first < 2 ^ 32 → Stands first old → (newest : BegunReset) (earlier : List BegunReset) (new : ReassemblyState) → old.asking.requests ≡ newest ∷ earlier
     → is_reset_reached newest.reset old.tracker ≡ true → IsOwn newest.reset old.reassembly.deferral → EndsDeferral newest.reset.streams old.reassembly new
-    → Stands first (record old { reassembly = new; asking = record old.asking { is_performed = true } })
+    → Stands first (record old { reassembly = new; performed = reset_performed newest.reset.streams old.read new ∷ old.performed; asking = record old.asking { is_performed = true } })
 stepped_performs first old small s newest earlier new asks reached own leaves =
     let m = newest_of s.history.marks newest earlier (sym s.asked ∙ asks) in
     let has : HasEntry m.mark s.history.marks = subst (λ (l : List Mark). HasEntry m.mark l) (sym m.is) (inl refl) in

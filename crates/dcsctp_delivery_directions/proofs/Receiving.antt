@@ -19,7 +19,7 @@ use Rattle.dcsctp_delivery_sending.specs.Flushes.{IsData, IsInterleaved, IsForwa
 use Rattle.dcsctp_delivery_receiving.specs.Clear.{IsClear, IsOver}
 use Rattle.dcsctp_delivery_receiving.specs.Ready.{AreDistinct, SkipAll}
 use Rattle.dcsctp_delivery_receiving.specs.Received.{Carries, IsTsn, Few, HasReceived}
-use Rattle.dcsctp_delivery_directions.specs.Directions.{Direction}
+use Rattle.dcsctp_delivery_directions.specs.Directions.{reset_performed, Direction}
 use Rattle.dcsctp_delivery_sending.proofs.Counting.{told}
 use Rattle.dcsctp_delivery_sending.proofs.Chunks.{kinds_of}
 use Rattle.dcsctp_delivery_receiving.proofs.Arriving.{carries_piece, carries_interleaved}
@@ -179,11 +179,30 @@ module _ (first : ℕ) (old : Direction) (small : first < 2 ^ 32) (s : Stands fi
       (λ little a is c. stays_cleared s.history first old.tracker.cumulative old.tracker.cumulative old.queues.queue.streams old.reassembly (deferring last_tsn streams old.reassembly) (omega arith)
       (λ id over clear. (clear_through_rest id old.reassembly clear).0 last_tsn streams) c)
 
-  unfoldable pub stepped_resets : (streams : List ℕ) (new : ReassemblyState) → EndsDeferral streams old.reassembly new → Stands first (record old { reassembly = new })
+  unfoldable pub stepped_resets : (streams : List ℕ) (new : ReassemblyState) → EndsDeferral streams old.reassembly new
+      → Stands first (record old { reassembly = new; performed = reset_performed streams old.read new ∷ old.performed })
   stepped_resets streams new leaves =
-      stepped_arrived old.tracker new (λ little a. left_keeps old.queued s.history first s.queues.cut (known_log little) (known_few little) a.places streams old.tracker old.reassembly new a.received leaves)
-      (λ little a is c. stays_cleared s.history first old.tracker.cumulative old.tracker.cumulative old.queues.queue.streams old.reassembly new (omega arith)
-      (λ id over clear. clear_through_resets id streams old.reassembly new clear leaves) c)
+      record {
+        history = s.history;
+        fit = s.fit;
+        next = s.next;
+        queues = s.queues;
+        packets = s.packets;
+        count = s.count;
+        asked = s.asked;
+        quiet = s.quiet;
+        arrived = λ little. (
+            let a = s.arrived little in
+            record {
+              places = a.places;
+              were = a.were;
+              once = a.once;
+              received = left_keeps old.queued s.history first s.queues.cut (known_log little) (known_few little) a.places streams old.tracker old.reassembly new a.received leaves;
+              cleared = λ is performed. stays_cleared s.history first old.tracker.cumulative old.tracker.cumulative old.queues.queue.streams old.reassembly new (omega arith)
+                  (λ id over clear. clear_through_resets id streams old.reassembly new clear leaves) (a.cleared is performed);
+            }
+            );
+      }
 
   unfoldable pub stepped_takes : (message : MessageContent) (messages : List MessageContent) → old.reassembly.incoming.ready ≡ message ∷ messages
       → Stands first (record old { reassembly = with_ready messages old.reassembly; read = old.read ++ message ∷ [] })

@@ -1,5 +1,5 @@
 -- A sender that keeps all that was queued pauses no stream, and begins no reset.
-use Rattle.std.proofs.Common.{◌≡◌, ℕ, true, false, List, [], ◌∷◌, refl, sym, ◌∙◌, ap, subst}
+use Rattle.std.proofs.Common.{◌≡◌, ℕ, true, false, List, [], ◌∷◌, length, refl, sym, ◌∙◌, ap, subst}
 use Rattle.std.specs.Prelude.{Option, None}
 use Rattle.std.specs.List.{AllByRecursion}
 use Rattle.dcsctp_spec.specs.endpoint.BegunResets.{BegunReset}
@@ -11,7 +11,7 @@ use Rattle.dcsctp_spec.specs.types.queues.SendStreams.{Stream}
 use Rattle.dcsctp_delivery_sending.specs.Flushes.{begun_reset_of}
 use Rattle.dcsctp_delivery_sending.specs.Losing.{AreOpen, IsOpenOn}
 use Rattle.dcsctp_delivery_sending.proofs.OpenStreams.{queueing_open, setting_open, committing_open, rolling_back_open, flush_open, flush_asks_none}
-use Rattle.dcsctp_delivery_directions.specs.Directions.{Beginning, KeepsAll, Direction, asking_with, DirectionStep, queues, sets, prepares, commits, rolls_back, flushes, resends, resends_nothing, speaks, asks_again, renews, turns_aside, acknowledges, loses, receives, forwards, receives_interleaved, forwards_interleaved, tracks, defers, performs, performs_earlier, resets, takes}
+use Rattle.dcsctp_delivery_directions.specs.Directions.{Beginning, KeepsAll, MayReset, Direction, asking_with, DirectionStep, queues, sets, prepares, commits, rolls_back, flushes, resends, resends_nothing, speaks, asks_again, renews, turns_aside, acknowledges, loses, receives, forwards, receives_interleaved, forwards_interleaved, tracks, defers, performs, performs_earlier, resets, takes}
 
 -- No stream is to be reset, and none ever was.
 pub record IsUnpaused (direction : Direction) : Type 0 where
@@ -24,10 +24,10 @@ all_open [] each = tt
 all_open (stream ∷ streams) each = ((each stream.id).0 refl, all_open streams (λ id. (each id).1))
 
 -- Where the sender keeps all, it prepares no stream to be reset.
-pub none_prepared : (beginning : Beginning) (ids : List ℕ) (queue : SendQueueState) → KeepsAll beginning
-    → AllByRecursion (λ id. beginning.keeps id ≡ false) ids → prepared_all ids queue ≡ queue
-none_prepared beginning [] queue keeps dropped = refl
-none_prepared beginning (id ∷ ids) queue keeps dropped = absurd (let no : true ≡ false = sym (keeps id) ∙ dropped.0 in cc)
+pub none_prepared : (beginning : Beginning) (count : ℕ) (ids : List ℕ) (queue : SendQueueState) → KeepsAll beginning
+    → AllByRecursion (MayReset beginning count) ids → prepared_all ids queue ≡ queue
+none_prepared beginning count [] queue keeps may = refl
+none_prepared beginning count (id ∷ ids) queue keeps may = absurd (let no : true ≡ false = sym (keeps id) ∙ may.0.dropped in cc)
 
 -- This stays so, where the sender keeps all.
 pub stays_unpaused : (old direction : Direction) → DirectionStep old direction → KeepsAll old.beginning → IsUnpaused old → IsUnpaused direction
@@ -35,7 +35,7 @@ stays_unpaused old _ (queues now sending fits some) keeps u = record { unpaused 
 stays_unpaused old _ (sets setting fits) keeps u = record { unpaused = setting_open setting old.queues.queue u.unpaused; unasked = u.unasked }
 stays_unpaused old _ (prepares ids fit dropped) keeps u =
     record {
-      unpaused = subst (λ (q : SendQueueState). AreOpen q.streams) (sym (none_prepared old.beginning ids old.queues.queue keeps dropped)) u.unpaused;
+      unpaused = subst (λ (q : SendQueueState). AreOpen q.streams) (sym (none_prepared old.beginning (length old.queued) ids old.queues.queue keeps dropped)) u.unpaused;
       unasked = u.unasked;
     }
 stays_unpaused old _ (commits go_on) keeps u = record { unpaused = committing_open old.queues.queue u.unpaused; unasked = u.unasked }

@@ -13,7 +13,7 @@ use Rattle.dcsctp_spec.specs.Packet.{Plain, unworked, plain, Emission}
 use Rattle.dcsctp_spec.specs.association.Choices.{plain_contents}
 use Rattle.dcsctp_spec.specs.queues.AtOnce.{SendsAtOnce}
 use Rattle.dcsctp_spec.specs.queues.Chunks.{AreChunksOfTsns}
-use Rattle.dcsctp_spec.specs.queues.OwnResets.{prepared_all, queue_committed, queue_rolled_back}
+use Rattle.dcsctp_spec.specs.queues.OwnResets.{is_open_pause, prepared_all, queue_committed, queue_rolled_back}
 use Rattle.dcsctp_spec.specs.queues.Retransmission.{RetransmissionState}
 use Rattle.dcsctp_spec.specs.types.Setting.{Setting}
 use Rattle.dcsctp_spec.specs.endpoint.SettingOutcomes.{set_in_queue}
@@ -59,10 +59,26 @@ pub record Beginning : Type 0 where
   pub from_zero : Bool
   -- On which streams with all that was queued before, and does it never reset them?
   pub keeps : ℕ → Bool
+  -- Does its user ask for a reset of the stream when so many messages were queued?
+  pub asks : ℕ → ℕ → Bool
 
 -- It keeps each stream so.
 abbrev pub KeepsAll : Beginning → Type 0
 KeepsAll beginning = (id : ℕ) → beginning.keeps id ≡ true
+
+-- The stream may be reset when so many messages were queued.
+pub record MayReset (beginning : Beginning) (count id : ℕ) : Type 0 where
+  pub dropped : beginning.keeps id ≡ false
+  pub asked : beginning.asks id count ≡ true
+
+-- A reset that the receiver has performed: which streams its request named, by fields of 16 bits, where an empty list names all;
+-- and how many messages its user had read by then, or could read.
+pub record PerformedReset : Type 0 where
+  pub streams : List ℕ
+  pub index : ℕ
+
+abbrev pub reset_performed : List ℕ → List MessageContent → ReassemblyState → PerformedReset
+reset_performed streams read reassembly = record { streams = streams; index = length read + length reassembly.incoming.ready }
 
 -- One direction of an association, as both of its ends have it.
 pub record Direction : Type 0 where
@@ -81,6 +97,8 @@ pub record Direction : Type 0 where
   pub reassembly : ReassemblyState
   -- what its user read, oldest first
   pub read : List MessageContent
+  -- the resets that it has performed, newest first
+  pub performed : List PerformedReset
   pub asking : Asking
   pub beginning : Beginning
 
@@ -134,10 +152,10 @@ pub data DirectionStep (old : Direction) : Direction → Type 0 where
   queues : (now : ℕ) (sending : Sending) → Fits (message_of sending) → 0 < length sending.message.payload
       → DirectionStep old (record old { queued = message_of sending ∷ old.queued; queues = record old.queues { queue = sending_queued now sending old.queues.queue } })
   -- The user sets something, or streams are prepared to be reset, each by a number of 16 bits, for which what waits on them is
-  -- dropped; or a reset was performed, or was not. With interleaving it is the only one that has no end, the receiver has performed
+  -- dropped, and if that may be asked for now; or a reset was performed, or was not. With interleaving it is the only one that has no end, the receiver has performed
   -- it, and none fails.
   sets : (setting : Setting) → SettingFits setting → DirectionStep old (record old { queues = record old.queues { queue = set_in_queue setting old.queues.queue } })
-  prepares : (ids : List ℕ) → AllByRecursion (λ id. id < 2 ^ 16) ids → AllByRecursion (λ id. old.beginning.keeps id ≡ false) ids
+  prepares : (ids : List ℕ) → AllByRecursion (λ id. id < 2 ^ 16) ids → AllByRecursion (MayReset old.beginning (length old.queued)) ids
       → DirectionStep old (record old { queues = record old.queues { queue = prepared_all ids old.queues.queue } })
   commits : (old.queues.queue.is_interleaved ≡ true → (old.asking.out ≤ 1) × (old.asking.is_performed ≡ true))
       → DirectionStep old (record old { queues = record old.queues { queue = queue_committed old.queues.queue }; asking = all_ended old.asking })
@@ -195,14 +213,15 @@ pub data DirectionStep (old : Direction) : Direction → Type 0 where
   -- wasn't performed before under its number.
   performs : (newest : BegunReset) (earlier : List BegunReset) (new : ReassemblyState) → old.asking.requests ≡ newest ∷ earlier
       → (old.queues.queue.is_interleaved ≡ true → old.asking.is_performed ≡ false) → is_reset_reached newest.reset old.tracker ≡ true → IsOwn newest.reset old.reassembly.deferral
-      → EndsDeferral newest.reset.streams old.reassembly new → DirectionStep old (record old { reassembly = new; asking = record old.asking { is_performed = true } })
+      → EndsDeferral newest.reset.streams old.reassembly new → DirectionStep old (record old { reassembly = new; performed = reset_performed newest.reset.streams old.read new ∷ old.performed; asking = record old.asking { is_performed = true } })
   -- An earlier request than the newest is performed, which wants the same: the newest is that one, sent again under another number,
   -- and with interleaving it wasn't performed under that yet.
   performs_earlier : (newest : BegunReset) (earlier : List BegunReset) (new : ReassemblyState) → old.asking.requests ≡ newest ∷ earlier
       → (old.queues.queue.is_interleaved ≡ true → old.asking.is_performed ≡ false) → is_reset_reached newest.reset old.tracker ≡ true → IsOwn newest.reset old.reassembly.deferral
-      → EndsDeferral newest.reset.streams old.reassembly new → DirectionStep old (record old { reassembly = new })
+      → EndsDeferral newest.reset.streams old.reassembly new → DirectionStep old (record old { reassembly = new; performed = reset_performed newest.reset.streams old.read new ∷ old.performed })
   -- Without interleaving the streams of any request that the sender has begun are reset.
-  resets : (streams : List ℕ) (new : ReassemblyState) → old.queues.queue.is_interleaved ≡ false → HasAsked old.asking.requests streams → EndsDeferral streams old.reassembly new → DirectionStep old (record old { reassembly = new })
+  resets : (streams : List ℕ) (new : ReassemblyState) → old.queues.queue.is_interleaved ≡ false → HasAsked old.asking.requests streams → EndsDeferral streams old.reassembly new
+      → DirectionStep old (record old { reassembly = new; performed = reset_performed streams old.read new ∷ old.performed })
   -- Its user reads a message.
   takes : (message : MessageContent) (messages : List MessageContent) → old.reassembly.incoming.ready ≡ message ∷ messages
       → DirectionStep old (record old { reassembly = with_ready messages old.reassembly; read = old.read ++ message ∷ [] })
@@ -219,11 +238,13 @@ RestIsUnordered streams under_way =
     (u : UnderWay) (waiting : Waiting) → under_way ≡ Some u → front_of (stream_named u.stream_id.0 streams).messages ≡ Some waiting
     → waiting.is_unordered ≡ true
 
--- No ordered message is under way, and the next one of each stream has the number 0, with interleaving and without.
+-- No ordered message is under way, the next one of each stream has the number 0, with interleaving and without, and none is to be
+-- reset.
 pub record BeginsAtZero (queue : SendQueueState) : Type 0 where
   pub rest : RestIsUnordered queue.streams queue.under_way
   pub zero : (id : ℕ) → next_mid false (stream_named id queue.streams) % 2 ^ 32 ≡ 0
   pub ssn : (id : ℕ) → (next_numbers false (stream_named id queue.streams)).0 ≡ 0
+  pub unpaused : (id : ℕ) → is_open_pause (stream_named id queue.streams).pause ≡ true
 
 -- The sender begins so with this queue, once all this was queued.
 pub record BeginsAs (beginning : Beginning) (queued : List Message) (queue : SendQueueState) : Type 0 where
@@ -241,6 +262,7 @@ pub record BeginsDirection (options : Options) (first size : ℕ) (direction : D
   pub tracker : direction.tracker ≡ new_tracker options first
   pub reassembly : direction.reassembly ≡ new_reassembly size (part_overhead options)
   pub read : direction.read ≡ []
+  pub performed : direction.performed ≡ []
   pub asking : direction.asking ≡ nothing_asked
   pub begun : BeginsAs direction.beginning direction.queued direction.queues.queue
 

@@ -125,7 +125,7 @@ module _ (first : ℕ) (old : Direction) (small : first < 2 ^ 32) (opened : ℕ 
 
 -- ---- a run
 
-run_delivers : (options : Options) (first size : ℕ) (direction : Direction) → first < 2 ^ 32 → length direction.queued < 2 ^ 64 → (run : DirectionRun options first size direction)
+pub run_delivers : (options : Options) (first size : ℕ) (direction : Direction) → first < 2 ^ 32 → length direction.queued < 2 ^ 64 → (run : DirectionRun options first size direction)
     → DeliversSo first direction (opened_of options first size direction run) (asked_of options first size direction run) (cuts_of options first size direction run)
 run_delivers options first size _ small few (begins direction b) =
     let w = waits_from direction.queued direction.queues.queue b.queues in

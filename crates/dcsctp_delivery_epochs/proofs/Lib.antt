@@ -12,3 +12,4 @@ pub mod Behind
 pub mod Delivering
 pub mod Performing
 pub mod DeliveringRuns
+pub mod CutsAsked

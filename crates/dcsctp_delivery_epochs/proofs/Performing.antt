@@ -46,7 +46,7 @@ module _ (first : ℕ) (old : Direction) (small : first < 2 ^ 32) (opened : ℕ 
         ]
 
     -- each stream that it names is handed out
-    handed : old.queues.queue.is_interleaved ≡ true → (id : ℕ) → names_stream newest.reset.streams id ≡ true → is_handed_out (stream_named id old.queues.queue.streams).pause ≡ true
+    pub handed : old.queues.queue.is_interleaved ≡ true → (id : ℕ) → names_stream newest.reset.streams id ≡ true → is_handed_out (stream_named id old.queues.queue.streams).pause ≡ true
     handed interleaved id names =
         let m = newest_of stands.history.marks newest earlier (sym stands.asked ∙ asks) in
         (d.named m.mark m.earlier m.is (some_out interleaved) id (subst (λ (b : BegunReset). names_stream b.reset.streams id ≡ true) (sym m.begins) names)).handed

@@ -1,3 +1,4 @@
 pub mod Sending
 pub mod Directions
 pub mod Cuts
+pub mod Asked

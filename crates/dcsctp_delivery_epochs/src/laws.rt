@@ -1,5 +1,6 @@
 //! The laws of this crate.
 
+ghost use Rattle.dcsctp_delivery_epochs.specs.Asked.{DirectionsCutAsAsked};
 ghost use Rattle.dcsctp_delivery_epochs.specs.Cuts.{DirectionsDeliverByEpoch};
 ghost use Rattle.dcsctp_delivery_epochs.specs.Directions.{DirectionsSendByEpoch};
 
@@ -16,4 +17,11 @@ pub fn directions_send_by_epoch()
 /// twice at the same message.
 pub fn directions_deliver_by_epoch()
     ensures { DirectionsDeliverByEpoch }
+{}
+
+/// With interleaving each reset of a stream that the receiver performs was asked for by the sender's user (RFC 6525,
+/// section 5.1.2): of the ordered messages of the stream those that were read or are ready then were queued before
+/// that, and those that come later since.
+pub fn directions_cut_as_asked()
+    ensures { DirectionsCutAsAsked }
 {}

@@ -4,4 +4,4 @@
 
 mod laws;
 
-pub use laws::{directions_deliver_by_epoch, directions_send_by_epoch};
+pub use laws::{directions_cut_as_asked, directions_deliver_by_epoch, directions_send_by_epoch};

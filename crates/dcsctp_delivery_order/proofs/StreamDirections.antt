@@ -27,7 +27,7 @@ use Rattle.dcsctp_delivery_sending.proofs.Losing.{kept_more, queued_of}
 use Rattle.dcsctp_delivery_sending.proofs.StillWaiting.{queueing_waits, setting_waits, committing_waits, rolling_back_waits}
 use Rattle.dcsctp_delivery_receiving.specs.Ready.{AreDistinct, WereQueued}
 use Rattle.dcsctp_delivery_receiving.proofs.Joining.{both}
-use Rattle.dcsctp_delivery_directions.specs.Directions.{Direction, Beginning, KeepsAll, Asking, BeginsAs, BeginsDirection, IsAwaited, NoneInFlight, assigned_count, DirectionRun, begins, goes_on, starts, DirectionStep, queues, sets, prepares, commits, rolls_back, flushes, resends, resends_nothing, speaks, asks_again, renews, turns_aside, acknowledges, loses, receives, forwards, receives_interleaved, forwards_interleaved, tracks, defers, performs, performs_earlier, resets, takes}
+use Rattle.dcsctp_delivery_directions.specs.Directions.{Direction, Beginning, KeepsAll, MayReset, Asking, BeginsAs, BeginsDirection, IsAwaited, NoneInFlight, assigned_count, DirectionRun, begins, goes_on, starts, DirectionStep, queues, sets, prepares, commits, rolls_back, flushes, resends, resends_nothing, speaks, asks_again, renews, turns_aside, acknowledges, loses, receives, forwards, receives_interleaved, forwards_interleaved, tracks, defers, performs, performs_earlier, resets, takes}
 use Rattle.dcsctp_delivery_directions.proofs.Continuing.{Continues, NamedAreOut, EndsNone, step_continues, ended_raises, begun_history, started_history}
 use Rattle.dcsctp_delivery_directions.proofs.Directions.{begun_stands, started_stands, run_stands}
 use Rattle.dcsctp_delivery_directions.proofs.Losing.{was_before, same_beginning}
@@ -65,12 +65,12 @@ free_on : (gapless : ℕ → Bool) (queued : List Message) (log : List Slot) →
 free_on gapless queued log cut are n f at on = unlimited_on_at f.message.stream queued f.place f.message (are f.message.stream on) (cut.pieces n f at).at refl
 
 -- A stream that is kept isn't among those that are prepared to be reset.
-not_named : (keeps : ℕ → Bool) (id : ℕ) (ids : List ℕ) → keeps id ≡ true → AllByRecursion (λ other. keeps other ≡ false) ids → is_named ids id ≡ false
-not_named keeps id [] kept dropped = refl
-not_named keeps id (other ∷ ids) kept dropped =
+not_named : (beginning : Beginning) (count id : ℕ) (ids : List ℕ) → beginning.keeps id ≡ true → AllByRecursion (MayReset beginning count) ids → is_named ids id ≡ false
+not_named beginning count id [] kept may = refl
+not_named beginning count id (other ∷ ids) kept may =
     elim (eqb_tells other id) [
-      | inl e ↦ absurd (let no : true ≡ false = sym kept ∙ ap keeps (sym e.1) ∙ dropped.0 in cc)
-      | inr e ↦ rw e.0 (not_named keeps id ids kept dropped.1)
+      | inl e ↦ absurd (let no : true ≡ false = sym kept ∙ ap beginning.keeps (sym e.1) ∙ may.0.dropped in cc)
+      | inr e ↦ rw e.0 (not_named beginning count id ids kept may.1)
     ]
 
 -- It isn't handed out.
@@ -114,7 +114,7 @@ unlimited_earlier id old _ (takes message messages ready) are = are
 pub step_open : (id : ℕ) (old direction : Direction) (step : DirectionStep old direction) → old.beginning.keeps id ≡ true → IsOpenOn id old.queues.queue.streams → IsOpenOn id direction.queues.queue.streams
 step_open id old _ (queues now sending fits some) keeps are = queueing_open_on id now sending old.queues.queue are
 step_open id old _ (sets setting fits) keeps are = setting_open_on id setting old.queues.queue are
-step_open id old _ (prepares ids fit dropped) keeps are = preparing_open_on id ids old.queues.queue (not_named old.beginning.keeps id ids keeps dropped) are
+step_open id old _ (prepares ids fit dropped) keeps are = preparing_open_on id ids old.queues.queue (not_named old.beginning (length old.queued) id ids keeps dropped) are
 step_open id old _ (commits go_on) keeps are = committing_open_on id old.queues.queue are
 step_open id old _ (rolls_back unmixed) keeps are = rolling_back_open_on id old.queues.queue are
 step_open id old _ (flushes e draft answers same no_data allowed) keeps are =
@@ -167,7 +167,7 @@ module _ (id first : ℕ) (old : Direction) (s : Stands first old) (are : AreUnl
   keeps_on : (direction : Direction) (step : DirectionStep old direction) → old.beginning.keeps id ≡ true → InFlight new first direction.acknowledged direction.queues.transfer → IsKept new.log direction.queues.queue.streams place
   keeps_on _ (queues now sending fits some) keeps flight = kept_waits s.history new more old.queues.queue.streams (sending_queued now sending old.queues.queue).streams place grows (queueing_waits now sending old.queues.queue place) kept
   keeps_on _ (sets setting fits) keeps flight = kept_waits s.history new more old.queues.queue.streams (set_in_queue setting old.queues.queue).streams place grows (setting_waits setting old.queues.queue place) kept
-  keeps_on _ (prepares ids fit dropped) keeps flight = kept_waits s.history new more old.queues.queue.streams (prepared_all ids old.queues.queue).streams place grows (prepares_keeps ids (not_named old.beginning.keeps id ids keeps dropped)) kept
+  keeps_on _ (prepares ids fit dropped) keeps flight = kept_waits s.history new more old.queues.queue.streams (prepared_all ids old.queues.queue).streams place grows (prepares_keeps ids (not_named old.beginning (length old.queued) id ids keeps dropped)) kept
   keeps_on _ (commits go_on) keeps flight = kept_waits s.history new more old.queues.queue.streams (queue_committed old.queues.queue).streams place grows (committing_waits old.queues.queue place) kept
   keeps_on _ (rolls_back unmixed) keeps flight = kept_waits s.history new more old.queues.queue.streams (queue_rolled_back old.queues.queue).streams place grows (rolling_back_waits old.queues.queue place) kept
   keeps_on _ (flushes e draft answers same no_data allowed) keeps flight =

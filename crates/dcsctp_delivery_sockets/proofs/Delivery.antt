@@ -1,6 +1,6 @@
 -- Over an honest run in which each tag serves one association, what a user reads is what its peer's
 -- user sent.
-use Rattle.std.proofs.Common.{◌≡◌, ℕ, zero, suc, List, [], ◌∷◌, ◌++◌, refl, sym, ◌∙◌, ap, subst, inl, inr, Bool, true, not, ◌<◌, ◌^◌, false, ◌+◌, arith}
+use Rattle.std.proofs.Common.{◌≡◌, ℕ, zero, suc, List, [], ◌∷◌, ◌++◌, length, refl, sym, ◌∙◌, ap, subst, inl, inr, Bool, true, not, ◌<◌, ◌^◌, false, ◌+◌, arith}
 use Rattle.std.specs.Prelude.{◌⊎◌, Option, None, Some}
 use Rattle.std.specs.List.{slice_get}
 use Rattle.std.proofs.lemmas.List.{append-nil}
@@ -11,7 +11,7 @@ use Rattle.dcsctp_spec_lemmas.specs.types.declared.schedule.Side.{Side}
 use Rattle.dcsctp_spec_lemmas.specs.types.declared.schedule.Side.TheVariants as sides
 use Rattle.dcsctp_spec_lemmas.specs.types.Schedule.{StepContent, call_step, delivery_step, ActContent, step_act, outside_act, IsHonestAct, AreHonest}
 use Rattle.dcsctp_spec_lemmas.specs.types.Settings.{FitsOptions, wire_options, ports_of}
-use Rattle.dcsctp_spec_lemmas.specs.spec.endpoint.CallTurns.{Transition, HandleInput, events_of, effects_of, AlongTurns}
+use Rattle.dcsctp_spec_lemmas.specs.spec.endpoint.CallTurns.{Transition, HandleInput, events_of, effects_of}
 use Rattle.dcsctp_spec_lemmas.specs.spec.endpoint.Endpoint.{Endpoint, fresh_endpoint}
 use Rattle.dcsctp_spec_lemmas.specs.spec.endpoint.Event.{Event, sent, packets_of_events}
 use Rattle.dcsctp_spec_runs.specs.Fitting.{HoldsIfSent, AllSent, FitsEndpoint, IsSendable}
@@ -29,12 +29,16 @@ use Rattle.dcsctp_delivery_sending.specs.Places as places
 use Rattle.dcsctp_delivery_directions.specs.Directions.{AreDelivered}
 use Rattle.dcsctp_delivery_associations.specs.Reads.{nothing_read, messages_of, with_key}
 use Rattle.dcsctp_delivery_sockets.specs.Echoes.{GoesToMaker}
-use Rattle.dcsctp_delivery_sockets.specs.Ordered.{HasOneTag, AllowsOrder, IsDeliveredInOrder, read_under, AllowsNoGaps, IsDeliveredWithoutGaps, IsReliable, IsDeliveredByStream, AllowsDataOrder}
+use Rattle.dcsctp_delivery_sockets.specs.Ordered.{HasOneTag, StartsAtZero, AllowsOrder, IsDeliveredInOrder, read_under, AllowsNoGaps, IsDeliveredWithoutGaps, IsReliable, IsDeliveredByStream, AllowsDataOrder}
 use Rattle.dcsctp_delivery_sockets.specs.UserMessages.{messages_of_turns, sendings_of_turns, read_of, IsDelivered}
 use Rattle.dcsctp_delivery_sockets.specs.Delivery.{FitsStep, AreInMemory, MatchOrUnmatched, SendsLittle, SendsLittleTogether, TurnsAllowDelivery, Delivers, SocketsDeliver, IsOfNewTagsBut}
 use Rattle.dcsctp_delivery_associations.proofs.Delivers.{ends_begin, ends_deliver}
-use Rattle.dcsctp_delivery_sockets.specs.Acts.{ResetsAsAllowed}
-use Rattle.dcsctp_delivery_turns.specs.Actions.{resets_streams, resets_stream}
+use Rattle.dcsctp_delivery_sockets.specs.Acts.{ResetsThrough}
+use Rattle.dcsctp_delivery_sockets.specs.Epochs.{HasReset, ReportsPeerReset, IsDeliveredByEpoch}
+use Rattle.dcsctp_delivery_sockets.proofs.AskedResets.{asked_through, asked_first, asked_later, has_reset_so}
+use Rattle.dcsctp_delivery_sockets.proofs.Epochs.{is_by_epoch}
+use Rattle.dcsctp_delivery_sending.specs.Log.{Message}
+use Rattle.dcsctp_delivery_turns.specs.Actions.{queued_after, resets_streams, resets_stream}
 use Rattle.std.specs.List.{AllByRecursion}
 use Rattle.std.specs.Prelude.{not, ◌&&◌}
 use Rattle.dcsctp_delivery_order.specs.Delivered.{AreDeliveredInOrder, AreDeliveredWithoutGaps}
@@ -42,7 +46,7 @@ use Rattle.dcsctp_delivery_associations.specs.InOrder.{Interleaves, InterleavesU
 use Rattle.dcsctp_delivery_associations.specs.InOrder.{IsReliableKept}
 use Rattle.dcsctp_delivery_order.proofs.StreamDirections.{are_unlimited_on as unlimited_test, unlimited_so, so_unlimited}
 use Rattle.dcsctp_delivery_receiving.proofs.Joining.{both}
-use Rattle.dcsctp_delivery_associations.specs.Ends.{NumbersFromZero, HadBoth, chunks_before, IsOnlyOwn}
+use Rattle.dcsctp_delivery_associations.specs.Ends.{ResetCalls, NumbersFromZero, HadBoth, chunks_before, IsOnlyOwn}
 use Rattle.dcsctp_spec_lemmas.specs.spec.endpoint.MessageOutcomes.{Sending}
 use Rattle.dcsctp_spec_lemmas.specs.spec.endpoint.Turn.{Input, arrival, refusal, packet_begins, chunk_input, packet_ends, act_input, user_sets, user_sends, user_resets, user_takes, timer_expires, time_passes, restores}
 use Rattle.dcsctp_delivery_order.specs.PlainDirections.{FewOnEachStream}
@@ -52,7 +56,7 @@ use Rattle.dcsctp_delivery_sockets.proofs.FewSent.{few_queued_on}
 use Rattle.dcsctp_delivery_associations.proofs.InOrder.{ends_deliver_in_order, ends_deliver_data_in_order, ends_deliver_by_stream, ends_deliver_on_streams, ends_arrive, ends_deliver_without_gaps, nothing_in_order, nothing_before, nothing_by_stream, nothing_on}
 use Rattle.dcsctp_delivery_associations.proofs.Heard.{one_heard, silent_or_free}
 use Rattle.dcsctp_theorem_sockets.specs.Telling.{SocketsReportEffects}
-use Rattle.dcsctp_delivery_sockets.proofs.Resets.{AllSeen, seen_both, seen_more, resets_shared}
+use Rattle.dcsctp_delivery_sockets.proofs.Resets.{AllSeen, seen_both, seen_more, resets_shared, all_tell}
 use Rattle.dcsctp_delivery_sockets.proofs.PacketBack.{turns_back, packet_back}
 use Rattle.dcsctp_delivery_sockets.proofs.Calls.{AreCalls, call_without, call_is, input_is}
 use Rattle.dcsctp_delivery_sockets.proofs.Echoes.{echoes_go_to_makers}
@@ -92,23 +96,23 @@ good_among all (event ∷ events) within each = (tt, good_among all events withi
 -- ---- an act of one side
 
 -- both directions, once the side that acts has taken these turns
-record ActedSide (never_resets their_never : ℕ → Bool) (mine theirs : Options) (turns others more : List Transition) : Type 0 where
-  sends : Stand never_resets mine theirs (turns ++ more) others
-  receives : Stand their_never theirs mine others (turns ++ more)
+record ActedSide (reset_calls their_reset_calls : ResetCalls) (mine theirs : Options) (turns others more : List Transition) : Type 0 where
+  sends : Stand reset_calls mine theirs (turns ++ more) others
+  receives : Stand their_reset_calls theirs mine others (turns ++ more)
   side_stands : StandsSo (endpoint_after mine (turns ++ more)) (recorded_past (turns ++ more))
   resets : AllSeen (events_of others) more
 
-module _ (law : Below) (never_resets their_never : ℕ → Bool) (mine theirs : Options) (turns others more : List Transition) (fits : FitsEndpoint (endpoint_after mine turns)) (their_fits : FitsOptions theirs)
-    (known : SideKnown never_resets mine (recorded_past others) (turns ++ more)) (their_known : SideKnown their_never theirs (recorded_past (turns ++ more)) others)
+module _ (law : Below) (reset_calls their_reset_calls : ResetCalls) (mine theirs : Options) (turns others more : List Transition) (fits : FitsEndpoint (endpoint_after mine turns)) (their_fits : FitsOptions theirs)
+    (known : SideKnown reset_calls mine (recorded_past others) (turns ++ more)) (their_known : SideKnown their_reset_calls theirs (recorded_past (turns ++ more)) others)
     (matched : MatchOrUnmatched mine theirs (recorded_past (turns ++ more)) (recorded_past others))
-    (side : SidePerformed (recorded_past (turns ++ more)) (recorded_past others)) (stands : StandsSo (endpoint_after mine turns) (recorded_past turns)) (sends : Stand never_resets mine theirs turns others)
-    (receives : Stand their_never theirs mine others turns) where
-  nothing_done : more ≡ [] → ActedSide never_resets their_never mine theirs turns others more
+    (side : SidePerformed (recorded_past (turns ++ more)) (recorded_past others)) (stands : StandsSo (endpoint_after mine turns) (recorded_past turns)) (sends : Stand reset_calls mine theirs turns others)
+    (receives : Stand their_reset_calls theirs mine others turns) where
+  nothing_done : more ≡ [] → ActedSide reset_calls their_reset_calls mine theirs turns others more
   nothing_done none =
       let same : turns ≡ turns ++ more = sym (ap (λ (m : List Transition). turns ++ m) none ∙ append-nil turns) in
       record {
-        sends = subst (λ (ts : List Transition). Stand never_resets mine theirs ts others) same sends;
-        receives = subst (λ (ts : List Transition). Stand their_never theirs mine others ts) same receives;
+        sends = subst (λ (ts : List Transition). Stand reset_calls mine theirs ts others) same sends;
+        receives = subst (λ (ts : List Transition). Stand their_reset_calls theirs mine others ts) same receives;
         side_stands = subst (λ (ts : List Transition). StandsSo (endpoint_after mine ts) (recorded_past ts)) same stands;
         resets = subst (AllSeen (events_of others)) (sym none) tt;
       }
@@ -117,41 +121,41 @@ module _ (law : Below) (never_resets their_never : ℕ → Bool) (mine theirs : 
   stand_so calls opens =
       subst (λ (past : List Effect). StandsSo (endpoint_after mine (turns ++ more)) past) (sym (past_more turns more))
       (subst (λ (e : Endpoint). StandsSo e (after_effects (effects_of more) (recorded_past turns))) (sym (after_all-append (fresh_endpoint mine) turns more))
-      (all_stand more (recorded_past turns) (endpoint_after mine turns) stands (rest_turns never_resets mine turns more known) calls (rest_moves never_resets mine turns more known) opens
+      (all_stand more (recorded_past turns) (endpoint_after mine turns) stands (rest_turns reset_calls mine turns more known) calls (rest_moves reset_calls mine turns more known) opens
       (subst NoneRestored (past_more turns more) side.restored)))
 
-  handled : (bytes : List ℕ) → IsSent (WasGood (packets_of others)) (emission_bytes (ports_of theirs)) bytes → HandleInput (endpoint_after mine turns) bytes more → ActedSide never_resets their_never mine theirs turns others more
+  handled : (bytes : List ℕ) → IsSent (WasGood (packets_of others)) (emission_bytes (ports_of theirs)) bytes → HandleInput (endpoint_after mine turns) bytes more → ActedSide reset_calls their_reset_calls mine theirs turns others more
   handled bytes out taken =
       let e : Endpoint = endpoint_after mine turns in
       let is : (packet : PacketContent) → IsPacket (wire_options e.options) packet bytes → packet_of_content packet ≡ out.emission.packet =
       λ packet found. reads_as_sent law.built e.options theirs out.emission packet their_fits out.good.good.sendable (subst (λ (bs : List ℕ). IsPacket (wire_options e.options) packet bs) out.is found) in
       let opens : AllOpenFitting more = packet_opens law.offers e bytes out.emission more fits out.good.good.sendable is taken in
       let calls : AreCalls more = input_is e bytes more taken in
-      let done = sender_more never_resets mine theirs turns others more sends known matched stands side.performed side.found side.restored calls opens (packet_echoes e bytes out.emission more out.good.good.goes is taken)
+      let done = sender_more reset_calls mine theirs turns others more sends known matched stands side.performed side.found side.restored calls opens (packet_echoes e bytes out.emission more out.good.good.goes is taken)
       (packet_back (packets_of others) out.emission out.good.has e bytes more out.good.good.goes (silent_or_free sends.ends.gets (recorded_past others) out.emission (one_heard sends.ends.gets (recorded_past others) (packets_of others) out.emission sends.reported.heard out.good.has)) is taken) in
       record {
         sends = done.0;
         resets = done.1;
-        receives = receiver_handles their_never never_resets theirs mine others turns more receives known their_known.tags matched stands side.found side.restored their_known.little bytes out.emission out.good.has
+        receives = receiver_handles their_reset_calls reset_calls theirs mine others turns more receives known their_known.tags matched stands side.found side.restored their_known.little bytes out.emission out.good.has
             out.good.good is taken calls opens;
         side_stands = stand_so calls opens;
       }
 
-  delivered : (index : ℕ) (found : Option (List ℕ)) → slice_get (packets_shown theirs others) index ≡ found → DeliveryTurns (endpoint_after mine turns) found more → ActedSide never_resets their_never mine theirs turns others more
+  delivered : (index : ℕ) (found : Option (List ℕ)) → slice_get (packets_shown theirs others) index ≡ found → DeliveryTurns (endpoint_after mine turns) found more → ActedSide reset_calls their_reset_calls mine theirs turns others more
   delivered index None is none = nothing_done none
   delivered index (Some bytes) is taken =
       handled bytes (sent_at (WasGood (packets_of others)) (emission_bytes (ports_of theirs)) (events_of others) index bytes
       (good_among (packets_of others) (events_of others) (λ emission has. has) their_known.packets) is) taken
 
-  side_acts : (step : StepContent) → FitsStep step → StepTurns (endpoint_after mine turns) (packets_shown theirs others) step more → ActedSide never_resets their_never mine theirs turns others more
+  side_acts : (step : StepContent) → FitsStep step → StepTurns (endpoint_after mine turns) (packets_shown theirs others) step more → ActedSide reset_calls their_reset_calls mine theirs turns others more
   side_acts (call_step which call) in_memory taken =
       let calls : AreCalls more = call_is (endpoint_after mine turns) call more in_memory taken in
       let none = call_without (endpoint_after mine turns) call more taken in
-      let done = sender_more never_resets mine theirs turns others more sends known matched stands side.performed side.found side.restored calls (none_open more none) (none_echo more none) (turns_back (packets_of others) (endpoint_after mine turns) more none) in
+      let done = sender_more reset_calls mine theirs turns others more sends known matched stands side.performed side.found side.restored calls (none_open more none) (none_echo more none) (turns_back (packets_of others) (endpoint_after mine turns) more none) in
       record {
         sends = done.0;
         resets = done.1;
-        receives = receiver_calls their_never never_resets theirs mine others turns more receives known their_known.tags matched stands side.found side.restored their_known.little call taken calls;
+        receives = receiver_calls their_reset_calls reset_calls theirs mine others turns more receives known their_known.tags matched stands side.found side.restored their_known.little call taken calls;
         side_stands = stand_so calls (none_open more none);
       }
   side_acts (delivery_step which zero) in_memory none = nothing_done none
@@ -159,19 +163,19 @@ module _ (law : Below) (never_resets their_never : ℕ → Bool) (mine theirs : 
 
 -- ---- a run
 
-record BothStand (never_resets : Both (ℕ → Bool)) (options : Both Options) (turns : Both (List Transition)) : Type 0 where
-  to_b : Stand never_resets.a options.a options.b turns.a turns.b
-  to_a : Stand never_resets.b options.b options.a turns.b turns.a
+record BothStand (reset_calls : Both ResetCalls) (options : Both Options) (turns : Both (List Transition)) : Type 0 where
+  to_b : Stand reset_calls.a options.a options.b turns.a turns.b
+  to_a : Stand reset_calls.b options.b options.a turns.b turns.a
   a_stands : StandsSo (endpoint_after options.a turns.a) (recorded_past turns.a)
   b_stands : StandsSo (endpoint_after options.b turns.b) (recorded_past turns.b)
   a_resets : AllSeen (events_of turns.b) turns.a
   b_resets : AllSeen (events_of turns.a) turns.b
 
-stepped : Below → (never_resets : Both (ℕ → Bool)) (options : Both Options) (turns : Both (List Transition)) (step : StepContent) (more : List Transition) (side : Side) → AreUsable options → Joined options turns → BothKnown never_resets options (side_turns_added side more turns)
-    → BothPerformed (side_turns_added side more turns) → FitsStep step → BothStand never_resets options turns → StepTurns (endpoint_after (of_side side options) (of_side side turns)) (packets_shown (of_other side options) (of_other side turns)) step more
-    → BothStand never_resets options (side_turns_added side more turns)
-stepped law never_resets options turns step more sides.A are j known performed in_memory h taken =
-    let done = side_acts law never_resets.a never_resets.b options.a options.b turns.a turns.b more j.a.fits (are sides.B).fits known.a known.b known.matched performed.a h.a_stands h.to_b h.to_a step in_memory taken in
+stepped : Below → (reset_calls : Both ResetCalls) (options : Both Options) (turns : Both (List Transition)) (step : StepContent) (more : List Transition) (side : Side) → AreUsable options → Joined options turns → BothKnown reset_calls options (side_turns_added side more turns)
+    → BothPerformed (side_turns_added side more turns) → FitsStep step → BothStand reset_calls options turns → StepTurns (endpoint_after (of_side side options) (of_side side turns)) (packets_shown (of_other side options) (of_other side turns)) step more
+    → BothStand reset_calls options (side_turns_added side more turns)
+stepped law reset_calls options turns step more sides.A are j known performed in_memory h taken =
+    let done = side_acts law reset_calls.a reset_calls.b options.a options.b turns.a turns.b more j.a.fits (are sides.B).fits known.a known.b known.matched performed.a h.a_stands h.to_b h.to_a step in_memory taken in
     record {
       to_b = done.sends;
       to_a = done.receives;
@@ -180,8 +184,8 @@ stepped law never_resets options turns step more sides.A are j known performed i
       a_resets = seen_both (events_of turns.b) turns.a more h.a_resets done.resets;
       b_resets = subst (λ (seen : List (Event Emission)). AllSeen seen turns.b) (sym (events_of-append turns.a more)) (seen_more (events_of turns.a) (events_of more) turns.b h.b_resets);
     }
-stepped law never_resets options turns step more sides.B are j known performed in_memory h taken =
-    let done = side_acts law never_resets.b never_resets.a options.b options.a turns.b turns.a more j.b.fits (are sides.A).fits known.b known.a
+stepped law reset_calls options turns step more sides.B are j known performed in_memory h taken =
+    let done = side_acts law reset_calls.b reset_calls.a options.b options.a turns.b turns.a more j.b.fits (are sides.A).fits known.b known.a
     (match_swapped options.a options.b (recorded_past turns.a) (recorded_past (turns.b ++ more)) known.matched) performed.b h.b_stands h.to_a h.to_b step in_memory taken in
     record {
       to_b = done.receives;
@@ -192,20 +196,20 @@ stepped law never_resets options turns step more sides.B are j known performed i
       b_resets = seen_both (events_of turns.a) turns.b more h.b_resets done.resets;
     }
 
-acted : Below → (never_resets : Both (ℕ → Bool)) (options : Both Options) (turns : Both (List Transition)) (act : ActContent) (more : List Transition) → AreUsable options → IsHonestAct act → AreInMemory (act ∷ []) → Joined options turns
-    → BothKnown never_resets options (side_turns_added (side_of_act act) more turns) → BothPerformed (side_turns_added (side_of_act act) more turns) → BothStand never_resets options turns → NextTurns options turns act more → BothStand never_resets options (side_turns_added (side_of_act act) more turns)
-acted law never_resets options turns (step_act step) more are honest in_memory j known performed h taken = stepped law never_resets options turns step more (side_of step) are j known performed in_memory.0 h taken
-acted law never_resets options turns (outside_act outside) more are honest in_memory j known performed h taken = absurd honest
+acted : Below → (reset_calls : Both ResetCalls) (options : Both Options) (turns : Both (List Transition)) (act : ActContent) (more : List Transition) → AreUsable options → IsHonestAct act → AreInMemory (act ∷ []) → Joined options turns
+    → BothKnown reset_calls options (side_turns_added (side_of_act act) more turns) → BothPerformed (side_turns_added (side_of_act act) more turns) → BothStand reset_calls options turns → NextTurns options turns act more → BothStand reset_calls options (side_turns_added (side_of_act act) more turns)
+acted law reset_calls options turns (step_act step) more are honest in_memory j known performed h taken = stepped law reset_calls options turns step more (side_of step) are j known performed in_memory.0 h taken
+acted law reset_calls options turns (outside_act outside) more are honest in_memory j known performed h taken = absurd honest
 
-both_stand : Below → AnswerKeepsAgreement → (never_resets : Both (ℕ → Bool)) (options : Both Options) (run : List PerformedAct) → AreUsable options → SocketRun options run → AreHonest (acts_of run) → AreFresh (turns_after run) → AreInMemory (acts_of run)
-    → BothKnown never_resets options (turns_after run)
-    → BothStand never_resets options (turns_after run)
-both_stand law answers never_resets options [] are runs honest fresh in_memory known = record { to_b = ends_begin never_resets.a options.a options.b; to_a = ends_begin never_resets.b options.b options.a; a_stands = fresh_stands options.a; b_stands = fresh_stands options.b; a_resets = tt; b_resets = tt }
-both_stand law answers never_resets options (worked ∷ earlier) are runs honest fresh in_memory known =
-    let before : BothKnown never_resets options (turns_after earlier) = both_front never_resets options (turns_after earlier) (side_of_act worked.act) worked.turns known in
-    acted law never_resets options (turns_after earlier) worked.act worked.turns are honest.0 (in_memory.0, tt) (joined law options earlier are runs.1 honest.1) known
+both_stand : Below → AnswerKeepsAgreement → (reset_calls : Both ResetCalls) (options : Both Options) (run : List PerformedAct) → AreUsable options → SocketRun options run → AreHonest (acts_of run) → AreFresh (turns_after run) → AreInMemory (acts_of run)
+    → BothKnown reset_calls options (turns_after run)
+    → BothStand reset_calls options (turns_after run)
+both_stand law answers reset_calls options [] are runs honest fresh in_memory known = record { to_b = ends_begin reset_calls.a options.a options.b; to_a = ends_begin reset_calls.b options.b options.a; a_stands = fresh_stands options.a; b_stands = fresh_stands options.b; a_resets = tt; b_resets = tt }
+both_stand law answers reset_calls options (worked ∷ earlier) are runs honest fresh in_memory known =
+    let before : BothKnown reset_calls options (turns_after earlier) = both_front reset_calls options (turns_after earlier) (side_of_act worked.act) worked.turns known in
+    acted law reset_calls options (turns_after earlier) worked.act worked.turns are honest.0 (in_memory.0, tt) (joined law options earlier are runs.1 honest.1) known
     (both_performed law answers options (worked ∷ earlier) are runs honest fresh)
-    (both_stand law answers never_resets options earlier are runs.1 honest.1 (fresh_front (turns_after earlier) (side_of_act worked.act) worked.turns fresh) in_memory.1 before) runs.0
+    (both_stand law answers reset_calls options earlier are runs.1 honest.1 (fresh_front (turns_after earlier) (side_of_act worked.act) worked.turns fresh) in_memory.1 before) runs.0
 
 -- ---- what is known of a run
 
@@ -232,12 +236,19 @@ not_false : (b c : Bool) → (not b && c) ≡ true → (b ≡ false) × (c ≡ t
 not_false true c is = absurd (cc)
 not_false false c is = (refl, is)
 
-resets_so : (e : Endpoint) (never : ℕ → Bool) (turns : List Transition) → ((stream : ℕ) → never stream ≡ true → resets_none turns stream ≡ true) → AlongTurns (ResetsAsAllowed never) e turns
-resets_so e never [] is = tt
-resets_so e never (turn ∷ turns) is =
-    let each : ((stream : ℕ) → never stream ≡ true → (resets_stream stream turn.input ≡ false) × (resets_none turns stream ≡ true)) =
-    λ stream never_so. not_false (resets_stream stream turn.input) (resets_none turns stream) (is stream never_so) in
-    ((λ stream never_so. (each stream never_so).0), resets_so turn.outcome.after never turns (λ stream never_so. (each stream never_so).1))
+resets_so : (reset_calls : ResetCalls) (e : Endpoint) (queued : List Message) (turns : List Transition) → ((stream : ℕ) → reset_calls.never stream ≡ true → resets_none turns stream ≡ true)
+    → ((stream count : ℕ) → asked_through e queued turns stream count ≡ true → reset_calls.asks stream count ≡ true) → ResetsThrough reset_calls e queued turns
+resets_so reset_calls e queued [] is asks = tt
+resets_so reset_calls e queued (turn ∷ turns) is asks =
+    let each : ((stream : ℕ) → reset_calls.never stream ≡ true → (resets_stream stream turn.input ≡ false) × (resets_none turns stream ≡ true)) =
+    λ stream never_so. not_false (resets_stream stream turn.input) (resets_none turns stream) (is stream never_so) in (
+      record {
+        never = λ stream never_so. (each stream never_so).0;
+        asks = λ accepted stream does. asks stream (length queued) (asked_first e queued turn turns stream accepted does);
+      },
+      resets_so reset_calls turn.outcome.after (queued_after e turn.input queued) turns (λ stream never_so. (each stream never_so).1)
+          (λ stream count later. asks stream count (asked_later e queued turn turns stream count later)),
+    )
 
 none_reset : (stream : ℕ) (turns : List Transition) → AllByRecursion (λ turn. resets_stream stream turn.input ≡ false) turns → resets_none turns stream ≡ true
 none_reset stream [] each = refl
@@ -263,12 +274,16 @@ none_of_all : (stream : ℕ) (turns : List Transition) → AllByRecursion (λ tu
 none_of_all stream [] each = tt
 none_of_all stream (turn ∷ turns) each = (not_this turn.input stream each.0, none_of_all stream turns each.1)
 
-abbrev both_resets_none : Both (List Transition) → Both (ℕ → Bool)
-both_resets_none turns = record { a = resets_none turns.a; b = resets_none turns.b }
+-- the resets that a user asks for by these turns
+abbrev calls_of : Options → List Transition → ResetCalls
+calls_of options turns = record { never = resets_none turns; asks = asked_through (fresh_endpoint options) [] turns }
 
-both_known : DeliveryLaws → (options : Both Options) (run : List PerformedAct) → AreUsable options → SocketRun options run → AreHonest (acts_of run) → AreFresh (turns_after run) → TurnsAllowDelivery options (turns_after run)
-    → BothKnown (both_resets_none (turns_after run)) options (turns_after run)
-both_known law options run are runs honest fresh allows =
+abbrev both_calls : Both Options → Both (List Transition) → Both ResetCalls
+both_calls options turns = record { a = calls_of options.a turns.a; b = calls_of options.b turns.b }
+
+both_known : DeliveryLaws → SocketsReportEffects → (options : Both Options) (run : List PerformedAct) → AreUsable options → SocketRun options run → AreHonest (acts_of run) → AreFresh (turns_after run) → TurnsAllowDelivery options (turns_after run)
+    → BothKnown (both_calls options (turns_after run)) options (turns_after run)
+both_known law told options run are runs honest fresh allows =
     let j : Joined options (turns_after run) = joined law.below options run are runs honest in
     record {
       a = record {
@@ -277,7 +292,8 @@ both_known law options run are runs honest fresh allows =
         packets = good_all (events_of (turns_after run).a) (all_sent_map (λ emission went. went.sendable) (events_of (turns_after run).a) j.a.went)
             (echoes_go_to_makers law.below law.answers options run are runs honest fresh sides.A);
         refused = allows.refused sides.A;
-        resets = resets_so (fresh_endpoint options.a) (resets_none (turns_after run).a) (turns_after run).a (λ stream is. is);
+        resets = resets_so (calls_of options.a (turns_after run).a) (fresh_endpoint options.a) [] (turns_after run).a (λ stream is. is) (λ stream count is. is);
+        tells = all_tell (turns_after run).a (told options run are runs sides.A);
         tags = allows.tags.a;
         little = allows.little sides.A;
         together = allows.together sides.A;
@@ -288,7 +304,8 @@ both_known law options run are runs honest fresh allows =
         packets = good_all (events_of (turns_after run).b) (all_sent_map (λ emission went. went.sendable) (events_of (turns_after run).b) j.b.went)
             (echoes_go_to_makers law.below law.answers options run are runs honest fresh sides.B);
         refused = allows.refused sides.B;
-        resets = resets_so (fresh_endpoint options.b) (resets_none (turns_after run).b) (turns_after run).b (λ stream is. is);
+        resets = resets_so (calls_of options.b (turns_after run).b) (fresh_endpoint options.b) [] (turns_after run).b (λ stream is. is) (λ stream count is. is);
+        tells = all_tell (turns_after run).b (told options run are runs sides.B);
         tags = allows.tags.b;
         little = allows.little sides.B;
         together = allows.together sides.B;
@@ -298,7 +315,7 @@ both_known law options run are runs honest fresh allows =
 
 -- ---- what was read
 
-module _ (never_resets : ℕ → Bool) (mine theirs : Options) (turns others : List Transition) (little : SendsLittle mine turns) (together : SendsLittleTogether turns) (h : Stand never_resets mine theirs turns others)
+module _ (reset_calls : ResetCalls) (mine theirs : Options) (turns others : List Transition) (little : SendsLittle mine turns) (together : SendsLittleTogether turns) (h : Stand reset_calls mine theirs turns others)
     (window : theirs.max_receiver_window_buffer_size < 2 ^ 32) (each : Each (IsOfNewTagsBut mine (recorded_past others)) (recorded_past turns)) (their_each : Each (IsOfNewTagsBut theirs (recorded_past turns)) (recorded_past others)) where
   few_went : (tag : ℕ) → chunks_before (h.ends.former tag) (packets_of turns) + chunks_to (h.ends.latest tag) (packets_of turns) < 2 ^ 30
   few_went tag = go (h.ends.former tag) refl
@@ -368,18 +385,18 @@ module _ (never_resets : ℕ → Bool) (mine theirs : Options) (turns others : L
     order_of : (endpoint_after mine turns).options.follow_rfc ≡ mine.follow_rfc → AllowsOrder mine turns tag → AreDeliveredInOrder (queued_of mine turns) (with_key key (reading_of theirs others).reads)
     order_of rules allows = by_order (elim allows.starts_at_zero [ inl follows ↦ inl (rules ∙ follows) | inr only ↦ inr (only_own only) ]) allows.numbering
 
-    gaps_of : ((stream : ℕ) → resets_none turns stream ≡ true → never_resets stream ≡ true) → AllowsNoGaps mine turns → AreDeliveredWithoutGaps (queued_of mine turns) (with_key key (reading_of theirs others).reads)
+    gaps_of : ((stream : ℕ) → resets_none turns stream ≡ true → reset_calls.never stream ≡ true) → AllowsNoGaps mine turns → AreDeliveredWithoutGaps (queued_of mine turns) (with_key key (reading_of theirs others).reads)
     gaps_of never leaves =
         ends_deliver_without_gaps theirs h.ends (endpoint_after mine turns) (queued_of mine turns) (recorded_past turns) (packets_of turns) (endpoint_after theirs others) (recorded_past others) (reading_of theirs others) h.between
         (few_queued mine turns little) few_went window (are_unlimited (queued_of mine turns) sent_all sent_same leaves.unlimited)
-        (λ stream. ap (λ (n : ℕ → Bool). n stream) h.is ∙ never stream (none_reset stream turns (none_of_all stream turns leaves.never_resets))) key (only_own leaves.one_tag)
+        (λ stream. ap (λ (c : ResetCalls). c.never stream) h.is ∙ never stream (none_reset stream turns (none_of_all stream turns leaves.never_resets))) key (only_own leaves.one_tag)
 
-    streams_of : HasOneTag (recorded_past turns) → Interleaves (recorded_past turns) tag → AreDeliveredByStream h.ends.never_resets (queued_of mine turns) (with_key key (reading_of theirs others).reads)
+    streams_of : HasOneTag (recorded_past turns) → Interleaves (recorded_past turns) tag → AreDeliveredByStream h.ends.calls.never (queued_of mine turns) (with_key key (reading_of theirs others).reads)
     streams_of only interleaves =
         ends_deliver_by_stream theirs h.ends (endpoint_after mine turns) (queued_of mine turns) (recorded_past turns) (packets_of turns) (endpoint_after theirs others) (recorded_past others) (reading_of theirs others) h.between
         (few_queued mine turns little) few_went key (only_own only) (interleaves_so interleaves)
 
-    these_of : (these : ℕ → Bool) → ((id : ℕ) → these id ≡ true → IsReliableKept h.ends.never_resets (queued_of mine turns) id) → HasOneTag (recorded_past turns) → AreDeliveredOnStreams these (queued_of mine turns) (with_key key (reading_of theirs others).reads)
+    these_of : (these : ℕ → Bool) → ((id : ℕ) → these id ≡ true → IsReliableKept h.ends.calls.never (queued_of mine turns) id) → HasOneTag (recorded_past turns) → AreDeliveredOnStreams these (queued_of mine turns) (with_key key (reading_of theirs others).reads)
     these_of these are only =
         ends_deliver_on_streams theirs h.ends (endpoint_after mine turns) (queued_of mine turns) (recorded_past turns) (packets_of turns) (endpoint_after theirs others) (recorded_past others) (reading_of theirs others) h.between
         (few_queued mine turns little) few_went window these are key (only_own only)
@@ -399,41 +416,41 @@ module _ (never_resets : ℕ → Bool) (mine theirs : Options) (turns others : L
       is_in_order (queued_of mine turns) sent_all (read_under tag theirs others) sent_same
       (by_key (AreDeliveredInOrder (queued_of mine turns)) tag (nothing_in_order (queued_of mine turns) [] refl) (λ key both their_link held own. order_of tag key both their_link held own rules allows))
 
-  one_without_gaps : ((stream : ℕ) → resets_none turns stream ≡ true → never_resets stream ≡ true) → (tag : ℕ) → AllowsNoGaps mine turns → IsDeliveredWithoutGaps sent_all (read_under tag theirs others)
+  one_without_gaps : ((stream : ℕ) → resets_none turns stream ≡ true → reset_calls.never stream ≡ true) → (tag : ℕ) → AllowsNoGaps mine turns → IsDeliveredWithoutGaps sent_all (read_under tag theirs others)
   one_without_gaps never tag leaves =
       is_without_gaps (queued_of mine turns) sent_all (read_under tag theirs others) sent_same
       (by_key (AreDeliveredWithoutGaps (queued_of mine turns)) tag (nothing_before (queued_of mine turns) [] refl) (λ key both their_link held own. gaps_of tag key both their_link held own never leaves))
 
-  one_by_stream : ((stream : ℕ) → resets_none turns stream ≡ true → never_resets stream ≡ true) → (tag : ℕ) → HasOneTag (recorded_past turns) → Interleaves (recorded_past turns) tag
+  one_by_stream : ((stream : ℕ) → resets_none turns stream ≡ true → reset_calls.never stream ≡ true) → (tag : ℕ) → HasOneTag (recorded_past turns) → Interleaves (recorded_past turns) tag
       → IsDeliveredByStream (IsReliable mine turns) sent_all (read_under tag theirs others)
   one_by_stream never tag only interleaves =
-      is_by_stream h.ends.never_resets (IsReliable mine turns) (queued_of mine turns) sent_all (read_under tag theirs others) sent_same
+      is_by_stream h.ends.calls.never (IsReliable mine turns) (queued_of mine turns) sent_all (read_under tag theirs others) sent_same
       (λ stream reliable. (
-        ap (λ (n : ℕ → Bool). n stream) h.is ∙ never stream (none_reset stream turns reliable.never_resets),
+        ap (λ (c : ResetCalls). c.never stream) h.is ∙ never stream (none_reset stream turns reliable.never_resets),
         are_unlimited_on stream (queued_of mine turns) sent_all sent_same reliable.unlimited,
       ))
-      (by_key (AreDeliveredByStream h.ends.never_resets (queued_of mine turns)) tag (nothing_by_stream h.ends.never_resets (queued_of mine turns) [] refl) (λ key both their_link held own. streams_of tag key both their_link held own only interleaves))
+      (by_key (AreDeliveredByStream h.ends.calls.never (queued_of mine turns)) tag (nothing_by_stream h.ends.calls.never (queued_of mine turns) [] refl) (λ key both their_link held own. streams_of tag key both their_link held own only interleaves))
 
   -- the streams that are never reset, with no limits
   abbrev reliable_kept : ℕ → Bool
-  reliable_kept id = h.ends.never_resets id && unlimited_test id (queued_of mine turns)
+  reliable_kept id = h.ends.calls.never id && unlimited_test id (queued_of mine turns)
 
-  kept_so : (id : ℕ) → reliable_kept id ≡ true → IsReliableKept h.ends.never_resets (queued_of mine turns) id
+  kept_so : (id : ℕ) → reliable_kept id ≡ true → IsReliableKept h.ends.calls.never (queued_of mine turns) id
   kept_so id is =
-      let (never, unlimited) = both (h.ends.never_resets id) (unlimited_test id (queued_of mine turns)) is in
+      let (never, unlimited) = both (h.ends.calls.never id) (unlimited_test id (queued_of mine turns)) is in
       record { never = never; unlimited = unlimited_so id (queued_of mine turns) unlimited }
 
-  reliable_so : ((stream : ℕ) → resets_none turns stream ≡ true → never_resets stream ≡ true) → (stream : ℕ) → IsReliable mine turns stream → reliable_kept stream ≡ true
+  reliable_so : ((stream : ℕ) → resets_none turns stream ≡ true → reset_calls.never stream ≡ true) → (stream : ℕ) → IsReliable mine turns stream → reliable_kept stream ≡ true
   reliable_so never stream is =
-      let never_is : h.ends.never_resets stream ≡ true = ap (λ (n : ℕ → Bool). n stream) h.is ∙ never stream (none_reset stream turns is.never_resets) in
+      let never_is : h.ends.calls.never stream ≡ true = ap (λ (c : ResetCalls). c.never stream) h.is ∙ never stream (none_reset stream turns is.never_resets) in
       rw never_is (so_unlimited stream (queued_of mine turns) (are_unlimited_on stream (queued_of mine turns) sent_all sent_same is.unlimited))
 
-  one_on_streams : ((stream : ℕ) → resets_none turns stream ≡ true → never_resets stream ≡ true) → (tag : ℕ) → HasOneTag (recorded_past turns) → IsDeliveredOn (IsReliable mine turns) sent_all (read_under tag theirs others)
+  one_on_streams : ((stream : ℕ) → resets_none turns stream ≡ true → reset_calls.never stream ≡ true) → (tag : ℕ) → HasOneTag (recorded_past turns) → IsDeliveredOn (IsReliable mine turns) sent_all (read_under tag theirs others)
   one_on_streams never tag only =
       is_on reliable_kept (IsReliable mine turns) (queued_of mine turns) sent_all (read_under tag theirs others) sent_same (reliable_so never)
       (by_key (AreDeliveredOnStreams reliable_kept (queued_of mine turns)) tag (nothing_on reliable_kept (queued_of mine turns) [] refl) (λ key both' their_link held own. these_of tag key both' their_link held own reliable_kept kept_so only))
 
-  one_complete : ((stream : ℕ) → resets_none turns stream ≡ true → never_resets stream ≡ true) → HasOneTag (recorded_past turns) → (through : AreThrough (endpoint_after mine turns) (endpoint_after theirs others))
+  one_complete : ((stream : ℕ) → resets_none turns stream ≡ true → reset_calls.never stream ≡ true) → HasOneTag (recorded_past turns) → (through : AreThrough (endpoint_after mine turns) (endpoint_after theirs others))
       → IsDeliveredAllOn (IsReliable mine turns) sent_all (read_under through.theirs.my.tag theirs others)
   one_complete never only through =
       is_all_on reliable_kept (IsReliable mine turns) (queued_of mine turns) sent_all (read_under through.theirs.my.tag theirs others) sent_same (reliable_so never)
@@ -460,37 +477,45 @@ module _ (never_resets : ℕ → Bool) (mine theirs : Options) (turns others : L
           ends_arrive theirs h.ends (endpoint_after mine turns) (queued_of mine turns) (recorded_past turns) (packets_of turns) (endpoint_after theirs others) (recorded_past others) (reading_of theirs others) h.between
           (few_queued mine turns little) few_went window reliable_kept kept_so through (λ link has. only link through.link has link_held)
 
+  one_by_epoch : (endpoint_after mine turns).options.follow_rfc ≡ mine.follow_rfc → ((stream count : ℕ) → reset_calls.asks stream count ≡ true → HasReset mine turns stream count) → (tag : ℕ) → StartsAtZero mine turns → Interleaves (recorded_past turns) tag
+      → IsDeliveredByEpoch (HasReset mine turns) (ReportsPeerReset theirs others tag) sent_all (read_under tag theirs others)
+  one_by_epoch rules asked tag starts interleaves =
+      is_by_epoch reset_calls mine theirs turns others h (few_queued mine turns little) few_went (peers_differ mine (recorded_past others) (recorded_past turns) each) (peers_differ theirs (recorded_past turns) (recorded_past others) their_each)
+      sent_all sent_same asked rules tag starts interleaves
+
 pub sockets_deliver : DeliveryLaws → SocketsReportEffects → SocketsDeliver
 sockets_deliver law told options run are in_memory runs honest fresh allows side =
-    both_deliver (both_stand law.below law.answers (both_resets_none turns) options run are runs honest fresh in_memory known) side
+    both_deliver (both_stand law.below law.answers (both_calls options turns) options run are runs honest fresh in_memory known) side
   where
     turns : Both (List Transition)
     turns = turns_after run
 
-    known : BothKnown (both_resets_none turns) options turns
-    known = both_known law options run are runs honest fresh allows
+    known : BothKnown (both_calls options turns) options turns
+    known = both_known law told options run are runs honest fresh allows
 
     window : (s : Side) → (of_side s options).max_receiver_window_buffer_size < 2 ^ 32
     window s = (are s).valid.receive_window
 
-    both_deliver : BothStand (both_resets_none turns) options turns → (s : Side) → Delivers options turns s
+    both_deliver : BothStand (both_calls options turns) options turns → (s : Side) → Delivers options turns s
     both_deliver h sides.A =
         record {
-          once = one_way (resets_none turns.b) options.b options.a turns.b turns.a (allows.little sides.B) (allows.together sides.B) h.to_a (window sides.A) known.b.tags known.a.tags;
-          in_order = one_in_order (resets_none turns.b) options.b options.a turns.b turns.a (allows.little sides.B) (allows.together sides.B) h.to_a (window sides.A) known.b.tags known.a.tags (same_rules_after (resets_none turns.b) options.b turns.b known.b);
-          no_gaps = one_without_gaps (resets_none turns.b) options.b options.a turns.b turns.a (allows.little sides.B) (allows.together sides.B) h.to_a (window sides.A) known.b.tags known.a.tags (λ stream is. is);
-          by_stream = one_by_stream (resets_none turns.b) options.b options.a turns.b turns.a (allows.little sides.B) (allows.together sides.B) h.to_a (window sides.A) known.b.tags known.a.tags (λ stream is. is);
-          on_streams = one_on_streams (resets_none turns.b) options.b options.a turns.b turns.a (allows.little sides.B) (allows.together sides.B) h.to_a (window sides.A) known.b.tags known.a.tags (λ stream is. is);
-          complete = one_complete (resets_none turns.b) options.b options.a turns.b turns.a (allows.little sides.B) (allows.together sides.B) h.to_a (window sides.A) known.b.tags known.a.tags (λ stream is. is);
+          once = one_way (calls_of options.b turns.b) options.b options.a turns.b turns.a (allows.little sides.B) (allows.together sides.B) h.to_a (window sides.A) known.b.tags known.a.tags;
+          in_order = one_in_order (calls_of options.b turns.b) options.b options.a turns.b turns.a (allows.little sides.B) (allows.together sides.B) h.to_a (window sides.A) known.b.tags known.a.tags (same_rules_after (calls_of options.b turns.b) options.b turns.b known.b);
+          no_gaps = one_without_gaps (calls_of options.b turns.b) options.b options.a turns.b turns.a (allows.little sides.B) (allows.together sides.B) h.to_a (window sides.A) known.b.tags known.a.tags (λ stream is. is);
+          by_stream = one_by_stream (calls_of options.b turns.b) options.b options.a turns.b turns.a (allows.little sides.B) (allows.together sides.B) h.to_a (window sides.A) known.b.tags known.a.tags (λ stream is. is);
+          on_streams = one_on_streams (calls_of options.b turns.b) options.b options.a turns.b turns.a (allows.little sides.B) (allows.together sides.B) h.to_a (window sides.A) known.b.tags known.a.tags (λ stream is. is);
+          complete = one_complete (calls_of options.b turns.b) options.b options.a turns.b turns.a (allows.little sides.B) (allows.together sides.B) h.to_a (window sides.A) known.b.tags known.a.tags (λ stream is. is);
           shared_resets = resets_shared (events_of turns.a) turns.b (told options run are runs sides.B) h.b_resets;
+          by_epoch = one_by_epoch (calls_of options.b turns.b) options.b options.a turns.b turns.a (allows.little sides.B) (allows.together sides.B) h.to_a (window sides.A) known.b.tags known.a.tags (same_rules_after (calls_of options.b turns.b) options.b turns.b known.b) (has_reset_so options.b turns.b);
         }
     both_deliver h sides.B =
         record {
-          once = one_way (resets_none turns.a) options.a options.b turns.a turns.b (allows.little sides.A) (allows.together sides.A) h.to_b (window sides.B) known.a.tags known.b.tags;
-          in_order = one_in_order (resets_none turns.a) options.a options.b turns.a turns.b (allows.little sides.A) (allows.together sides.A) h.to_b (window sides.B) known.a.tags known.b.tags (same_rules_after (resets_none turns.a) options.a turns.a known.a);
-          no_gaps = one_without_gaps (resets_none turns.a) options.a options.b turns.a turns.b (allows.little sides.A) (allows.together sides.A) h.to_b (window sides.B) known.a.tags known.b.tags (λ stream is. is);
-          by_stream = one_by_stream (resets_none turns.a) options.a options.b turns.a turns.b (allows.little sides.A) (allows.together sides.A) h.to_b (window sides.B) known.a.tags known.b.tags (λ stream is. is);
-          on_streams = one_on_streams (resets_none turns.a) options.a options.b turns.a turns.b (allows.little sides.A) (allows.together sides.A) h.to_b (window sides.B) known.a.tags known.b.tags (λ stream is. is);
-          complete = one_complete (resets_none turns.a) options.a options.b turns.a turns.b (allows.little sides.A) (allows.together sides.A) h.to_b (window sides.B) known.a.tags known.b.tags (λ stream is. is);
+          once = one_way (calls_of options.a turns.a) options.a options.b turns.a turns.b (allows.little sides.A) (allows.together sides.A) h.to_b (window sides.B) known.a.tags known.b.tags;
+          in_order = one_in_order (calls_of options.a turns.a) options.a options.b turns.a turns.b (allows.little sides.A) (allows.together sides.A) h.to_b (window sides.B) known.a.tags known.b.tags (same_rules_after (calls_of options.a turns.a) options.a turns.a known.a);
+          no_gaps = one_without_gaps (calls_of options.a turns.a) options.a options.b turns.a turns.b (allows.little sides.A) (allows.together sides.A) h.to_b (window sides.B) known.a.tags known.b.tags (λ stream is. is);
+          by_stream = one_by_stream (calls_of options.a turns.a) options.a options.b turns.a turns.b (allows.little sides.A) (allows.together sides.A) h.to_b (window sides.B) known.a.tags known.b.tags (λ stream is. is);
+          on_streams = one_on_streams (calls_of options.a turns.a) options.a options.b turns.a turns.b (allows.little sides.A) (allows.together sides.A) h.to_b (window sides.B) known.a.tags known.b.tags (λ stream is. is);
+          complete = one_complete (calls_of options.a turns.a) options.a options.b turns.a turns.b (allows.little sides.A) (allows.together sides.A) h.to_b (window sides.B) known.a.tags known.b.tags (λ stream is. is);
           shared_resets = resets_shared (events_of turns.b) turns.a (told options run are runs sides.A) h.a_resets;
+          by_epoch = one_by_epoch (calls_of options.a turns.a) options.a options.b turns.a turns.b (allows.little sides.A) (allows.together sides.A) h.to_b (window sides.B) known.a.tags known.b.tags (same_rules_after (calls_of options.a turns.a) options.a turns.a known.a) (has_reset_so options.a turns.a);
         }

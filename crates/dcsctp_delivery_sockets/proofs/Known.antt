@@ -1,5 +1,5 @@
 -- What is known of each side of a run, and so of each first part of it.
-use Rattle.std.proofs.Common.{◌≡◌, ℕ, List, [], ◌∷◌, ◌++◌, length, refl, sym, ◌∙◌, ap, arith, subst, append_assoc, Bool, ◌+◌}
+use Rattle.std.proofs.Common.{◌≡◌, ℕ, List, [], ◌∷◌, ◌++◌, length, refl, sym, ◌∙◌, ap, arith, subst, append_assoc, ◌+◌}
 use Rattle.dcsctp_spec_lemmas.specs.types.declared.options.Options.{Options}
 use Rattle.dcsctp_spec_lemmas.specs.types.declared.schedule.Side.{Side}
 use Rattle.dcsctp_spec_lemmas.specs.types.declared.schedule.Side.TheVariants as sides
@@ -22,7 +22,12 @@ use Rattle.dcsctp_theorem_sockets.proofs.Bursts.{packets_of_events-append}
 use Rattle.dcsctp_delivery_sending.specs.ChunkCounts.{chunks_to}
 use Rattle.dcsctp_delivery_directions.specs.Requests.{requests_to}
 use Rattle.dcsctp_delivery_directions.proofs.RequestCounts.{requests_more_to}
-use Rattle.dcsctp_delivery_sockets.specs.Acts.{AreTurns, ResetsAsAllowed}
+use Rattle.std.specs.List.{AllByRecursion}
+use Rattle.dcsctp_delivery_sending.specs.Log.{Message}
+use Rattle.dcsctp_delivery_turns.specs.Actions.{queued_after}
+use Rattle.dcsctp_delivery_associations.specs.Ends.{ResetCalls}
+use Rattle.dcsctp_delivery_associations.specs.Laws.{TellsPerformed}
+use Rattle.dcsctp_delivery_sockets.specs.Acts.{queued_through, AreTurns, ResetsThrough}
 use Rattle.dcsctp_delivery_sockets.specs.Echoes.{GoesToMaker}
 use Rattle.dcsctp_delivery_sockets.specs.UserMessages.{messages_of_input, messages_of_turns}
 use Rattle.dcsctp_delivery_sockets.specs.Delivery.{IsOfNewTagsBut, MatchOrUnmatched, SendsLittle, SendsLittleTogether, IsUnrefused}
@@ -40,6 +45,22 @@ module _ (Good : Endpoint → Transition → Type 0) where
   pub along_rest : (e : Endpoint) (turns more : List Transition) → AlongTurns Good e (turns ++ more) → AlongTurns Good (after_all e turns) more
   along_rest e [] more along = along
   along_rest e (t ∷ turns) more along = along_rest t.outcome.after turns more along.1
+
+resets_front : (reset_calls : ResetCalls) (e : Endpoint) (queued : List Message) (turns more : List Transition) → ResetsThrough reset_calls e queued (turns ++ more) → ResetsThrough reset_calls e queued turns
+resets_front reset_calls e queued [] more along = tt
+resets_front reset_calls e queued (t ∷ turns) more along = (along.0, resets_front reset_calls t.outcome.after (queued_after e t.input queued) turns more along.1)
+
+resets_rest : (reset_calls : ResetCalls) (e : Endpoint) (queued : List Message) (turns more : List Transition) → ResetsThrough reset_calls e queued (turns ++ more) → ResetsThrough reset_calls (after_all e turns) (queued_through e turns queued) more
+resets_rest reset_calls e queued [] more along = along
+resets_rest reset_calls e queued (t ∷ turns) more along = resets_rest reset_calls t.outcome.after (queued_after e t.input queued) turns more along.1
+
+tells_front : (turns more : List Transition) → AllByRecursion (λ turn. TellsPerformed turn.outcome) (turns ++ more) → AllByRecursion (λ turn. TellsPerformed turn.outcome) turns
+tells_front [] more each = tt
+tells_front (t ∷ turns) more each = (each.0, tells_front turns more each.1)
+
+tells_rest : (turns more : List Transition) → AllByRecursion (λ turn. TellsPerformed turn.outcome) (turns ++ more) → AllByRecursion (λ turn. TellsPerformed turn.outcome) more
+tells_rest [] more each = each
+tells_rest (t ∷ turns) more each = tells_rest turns more each.1
 
 pub sent_front : (Good : Emission → Type 0) (events more : List (Event Emission)) → AllSent Good (events ++ more) → AllSent Good events
 sent_front Good [] more each = tt
@@ -70,23 +91,25 @@ pub record GoodPacket (emission : Emission) : Type 0 where
   pub sendable : IsSendable emission
   pub goes : GoesToMaker emission
 
-pub record SideKnown (never_resets : ℕ → Bool) (options : Options) (theirs : List Effect) (turns : List Transition) : Type 0 where
+pub record SideKnown (reset_calls : ResetCalls) (options : Options) (theirs : List Effect) (turns : List Transition) : Type 0 where
   pub own : AlongTurns IsOwn (fresh_endpoint options) turns
   pub moves : AlongTurns IsMove (fresh_endpoint options) turns
   pub refused : AlongTurns IsUnrefused (fresh_endpoint options) turns
-  pub resets : AlongTurns (ResetsAsAllowed never_resets) (fresh_endpoint options) turns
+  pub resets : ResetsThrough reset_calls (fresh_endpoint options) [] turns
+  pub tells : AllByRecursion (λ turn. TellsPerformed turn.outcome) turns
   pub packets : AllSent GoodPacket (events_of turns)
   pub tags : Each (IsOfNewTagsBut options theirs) (recorded_past turns)
   pub little : SendsLittle options turns
   pub together : SendsLittleTogether turns
 
-pub side_front : (never_resets : ℕ → Bool) (options : Options) (theirs : List Effect) (turns more : List Transition) → SideKnown never_resets options theirs (turns ++ more) → SideKnown never_resets options theirs turns
-side_front never_resets options theirs turns more h =
+pub side_front : (reset_calls : ResetCalls) (options : Options) (theirs : List Effect) (turns more : List Transition) → SideKnown reset_calls options theirs (turns ++ more) → SideKnown reset_calls options theirs turns
+side_front reset_calls options theirs turns more h =
     record {
       own = along_front IsOwn (fresh_endpoint options) turns more h.own;
       moves = along_front IsMove (fresh_endpoint options) turns more h.moves;
       refused = along_front IsUnrefused (fresh_endpoint options) turns more h.refused;
-      resets = along_front (ResetsAsAllowed never_resets) (fresh_endpoint options) turns more h.resets;
+      resets = resets_front reset_calls (fresh_endpoint options) [] turns more h.resets;
+      tells = tells_front turns more h.tells;
       packets = sent_front GoodPacket (events_of turns) (events_of more) (subst (AllSent GoodPacket) (events_of-append turns more) h.packets);
       tags = each_earlier (IsOfNewTagsBut options theirs) (effects_of more) (recorded_past turns) (subst (Each (IsOfNewTagsBut options theirs)) (past_more turns more) h.tags);
       together = λ old link has has' same other.
@@ -121,49 +144,52 @@ side_front never_resets options theirs turns more h =
     went tag = ap (chunks_to tag) (ap packets_of_events (events_of-append turns more) ∙ packets_of_events-append (events_of turns) (events_of more)) ∙ more_to tag (packets_of_events (events_of turns)) (packets_of_events (events_of more))
 
 -- So it is of less that the other side did.
-pub side_before : (never_resets : ℕ → Bool) (options : Options) (theirs more : List Effect) (turns : List Transition) → SideKnown never_resets options (after_effects more theirs) turns → SideKnown never_resets options theirs turns
-side_before never_resets options theirs more turns h =
-    record { own = h.own; moves = h.moves; refused = h.refused; resets = h.resets; packets = h.packets; tags = each_before options theirs more (recorded_past turns) h.tags; little = h.little; together = h.together }
+pub side_before : (reset_calls : ResetCalls) (options : Options) (theirs more : List Effect) (turns : List Transition) → SideKnown reset_calls options (after_effects more theirs) turns → SideKnown reset_calls options theirs turns
+side_before reset_calls options theirs more turns h =
+    record { own = h.own; moves = h.moves; refused = h.refused; resets = h.resets; tells = h.tells; packets = h.packets; tags = each_before options theirs more (recorded_past turns) h.tags; little = h.little; together = h.together }
 
 -- what is known of the turns of an act
-pub rest_turns : (never_resets : ℕ → Bool) (options : Options) {theirs : List Effect} (turns more : List Transition) → SideKnown never_resets options theirs (turns ++ more) → AreTurns (endpoint_after options turns) more
-rest_turns never_resets options turns more h = are_turns (endpoint_after options turns) more (along_rest IsOwn (fresh_endpoint options) turns more h.own)
+pub rest_turns : (reset_calls : ResetCalls) (options : Options) {theirs : List Effect} (turns more : List Transition) → SideKnown reset_calls options theirs (turns ++ more) → AreTurns (endpoint_after options turns) more
+rest_turns reset_calls options turns more h = are_turns (endpoint_after options turns) more (along_rest IsOwn (fresh_endpoint options) turns more h.own)
 
-pub rest_moves : (never_resets : ℕ → Bool) (options : Options) {theirs : List Effect} (turns more : List Transition) → SideKnown never_resets options theirs (turns ++ more) → AlongTurns IsMove (endpoint_after options turns) more
-rest_moves never_resets options turns more h = along_rest IsMove (fresh_endpoint options) turns more h.moves
+pub rest_moves : (reset_calls : ResetCalls) (options : Options) {theirs : List Effect} (turns more : List Transition) → SideKnown reset_calls options theirs (turns ++ more) → AlongTurns IsMove (endpoint_after options turns) more
+rest_moves reset_calls options turns more h = along_rest IsMove (fresh_endpoint options) turns more h.moves
 
-pub rest_refused : (never_resets : ℕ → Bool) (options : Options) {theirs : List Effect} (turns more : List Transition) → SideKnown never_resets options theirs (turns ++ more) → AlongTurns IsUnrefused (endpoint_after options turns) more
-rest_refused never_resets options turns more h = along_rest IsUnrefused (fresh_endpoint options) turns more h.refused
+pub rest_refused : (reset_calls : ResetCalls) (options : Options) {theirs : List Effect} (turns more : List Transition) → SideKnown reset_calls options theirs (turns ++ more) → AlongTurns IsUnrefused (endpoint_after options turns) more
+rest_refused reset_calls options turns more h = along_rest IsUnrefused (fresh_endpoint options) turns more h.refused
 
-pub rest_resets : (never_resets : ℕ → Bool) (options : Options) {theirs : List Effect} (turns more : List Transition) → SideKnown never_resets options theirs (turns ++ more) → AlongTurns (ResetsAsAllowed never_resets) (endpoint_after options turns) more
-rest_resets never_resets options turns more h = along_rest (ResetsAsAllowed never_resets) (fresh_endpoint options) turns more h.resets
+pub rest_resets : (reset_calls : ResetCalls) (options : Options) {theirs : List Effect} (turns more : List Transition) → SideKnown reset_calls options theirs (turns ++ more) → ResetsThrough reset_calls (endpoint_after options turns) (queued_through (fresh_endpoint options) turns []) more
+rest_resets reset_calls options turns more h = resets_rest reset_calls (fresh_endpoint options) [] turns more h.resets
+
+pub rest_tells : (reset_calls : ResetCalls) (options : Options) {theirs : List Effect} (turns more : List Transition) → SideKnown reset_calls options theirs (turns ++ more) → AllByRecursion (λ turn. TellsPerformed turn.outcome) more
+rest_tells reset_calls options turns more h = tells_rest turns more h.tells
 
 -- A side ran to where the act begins.
-pub ran_front : (never_resets : ℕ → Bool) (options : Options) {theirs : List Effect} (turns more : List Transition) → SideKnown never_resets options theirs (turns ++ more) → RanTo options (endpoint_after options turns) (recorded_past turns)
-ran_front never_resets options turns more h = run_through options turns (fresh_endpoint options) [] (run_starts options) (along_front IsMove (fresh_endpoint options) turns more h.moves)
+pub ran_front : (reset_calls : ResetCalls) (options : Options) {theirs : List Effect} (turns more : List Transition) → SideKnown reset_calls options theirs (turns ++ more) → RanTo options (endpoint_after options turns) (recorded_past turns)
+ran_front reset_calls options turns more h = run_through options turns (fresh_endpoint options) [] (run_starts options) (along_front IsMove (fresh_endpoint options) turns more h.moves)
 
 -- It follows the RFC at the end if it did when it was made.
-pub same_rules_after : (never_resets : ℕ → Bool) (options : Options) {theirs : List Effect} (turns : List Transition) → SideKnown never_resets options theirs turns → (endpoint_after options turns).options.follow_rfc ≡ options.follow_rfc
-same_rules_after never_resets options turns h = ap (λ (p : Options). p.follow_rfc) (run_through options turns (fresh_endpoint options) [] (run_starts options) h.moves).same
+pub same_rules_after : (reset_calls : ResetCalls) (options : Options) {theirs : List Effect} (turns : List Transition) → SideKnown reset_calls options theirs turns → (endpoint_after options turns).options.follow_rfc ≡ options.follow_rfc
+same_rules_after reset_calls options turns h = ap (λ (p : Options). p.follow_rfc) (run_through options turns (fresh_endpoint options) [] (run_starts options) h.moves).same
 
 -- ---- both sides
 
-pub record BothKnown (never_resets : Both (ℕ → Bool)) (options : Both Options) (turns : Both (List Transition)) : Type 0 where
-  pub a : SideKnown never_resets.a options.a (recorded_past turns.b) turns.a
-  pub b : SideKnown never_resets.b options.b (recorded_past turns.a) turns.b
+pub record BothKnown (reset_calls : Both ResetCalls) (options : Both Options) (turns : Both (List Transition)) : Type 0 where
+  pub a : SideKnown reset_calls.a options.a (recorded_past turns.b) turns.a
+  pub b : SideKnown reset_calls.b options.b (recorded_past turns.a) turns.b
   pub matched : MatchOrUnmatched options.a options.b (recorded_past turns.a) (recorded_past turns.b)
 
-pub both_front : (never_resets : Both (ℕ → Bool)) (options : Both Options) (turns : Both (List Transition)) (side : Side) (more : List Transition) → BothKnown never_resets options (side_turns_added side more turns)
-    → BothKnown never_resets options turns
-both_front never_resets options turns sides.A more h =
+pub both_front : (reset_calls : Both ResetCalls) (options : Both Options) (turns : Both (List Transition)) (side : Side) (more : List Transition) → BothKnown reset_calls options (side_turns_added side more turns)
+    → BothKnown reset_calls options turns
+both_front reset_calls options turns sides.A more h =
     record {
-      a = side_front never_resets.a options.a (recorded_past turns.b) turns.a more h.a;
-      b = side_before never_resets.b options.b (recorded_past turns.a) (effects_of more) turns.b (subst (λ (p : List Effect). SideKnown never_resets.b options.b p turns.b) (past_more turns.a more) h.b);
+      a = side_front reset_calls.a options.a (recorded_past turns.b) turns.a more h.a;
+      b = side_before reset_calls.b options.b (recorded_past turns.a) (effects_of more) turns.b (subst (λ (p : List Effect). SideKnown reset_calls.b options.b p turns.b) (past_more turns.a more) h.b);
       matched = match_before options.a options.b (recorded_past turns.a) (recorded_past turns.b) (effects_of more) [] (subst (λ (p : List Effect). MatchOrUnmatched options.a options.b p (recorded_past turns.b)) (past_more turns.a more) h.matched);
     }
-both_front never_resets options turns sides.B more h =
+both_front reset_calls options turns sides.B more h =
     record {
-      a = side_before never_resets.a options.a (recorded_past turns.b) (effects_of more) turns.a (subst (λ (p : List Effect). SideKnown never_resets.a options.a p turns.a) (past_more turns.b more) h.a);
-      b = side_front never_resets.b options.b (recorded_past turns.a) turns.b more h.b;
+      a = side_before reset_calls.a options.a (recorded_past turns.b) (effects_of more) turns.a (subst (λ (p : List Effect). SideKnown reset_calls.a options.a p turns.a) (past_more turns.b more) h.a);
+      b = side_front reset_calls.b options.b (recorded_past turns.a) turns.b more h.b;
       matched = match_before options.a options.b (recorded_past turns.a) (recorded_past turns.b) [] (effects_of more) (subst (λ (p : List Effect). MatchOrUnmatched options.a options.b (recorded_past turns.a) p) (past_more turns.b more) h.matched);
     }

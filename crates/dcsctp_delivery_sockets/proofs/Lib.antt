@@ -30,3 +30,6 @@ pub mod Sides
 pub mod Steps
 pub mod Runs
 pub mod ShownDelivery
+pub mod AskedResets
+pub mod ToldResets
+pub mod Epochs

@@ -27,6 +27,8 @@ use Rattle.dcsctp_theorem_association.specs.OneSide.{LeavesCore}
 use Rattle.dcsctp_delivery_turns.specs.Untouched.{EchoesMaker}
 use Rattle.dcsctp_delivery_sockets.proofs.OpenFitting.{AllOpenFitting, LinkFits, link_fits, not_zero}
 use Rattle.dcsctp_delivery_sockets.proofs.Early.{same_rules, AllFound, NoneRestored, ConnectedSo, StandsSo, awaits_ack, stands_after, AllEcho}
+use Rattle.std.specs.List.{AllByRecursion}
+use Rattle.dcsctp_delivery_associations.specs.Laws.{TellsPerformed}
 
 -- ---- its tags are new
 
@@ -206,11 +208,11 @@ module _ (options their_options : Options) (e : Endpoint) (their_past whole past
           inl (crossed (λ may. (let other = found link (within (connects link) (connected follows (open_so e.core refl is) link linked)) in may.1 other.0 other.1 other.2)), none_before)
       by_core false is false follows = inl (crossed (λ may. (let clash : false ≡ true = sym follows ∙ same ∙ may.0 in absurd (cc))), none_before)
 
-pub new_tags : (options their_options : Options) (past : List Effect) (turns : List Transition) (their_past : List Effect) (e : Endpoint) → RanTo options e their_past → StandsSo e their_past → AreTurns e turns → AreCalls turns → AlongTurns IsMove e turns
+pub new_tags : (options their_options : Options) (past : List Effect) (turns : List Transition) (their_past : List Effect) (e : Endpoint) → RanTo options e their_past → StandsSo e their_past → AreTurns e turns → AllByRecursion (λ turn. TellsPerformed turn.outcome) turns → AreCalls turns → AlongTurns IsMove e turns
     → AllOpenFitting turns → Each (IsOfNewTagsBut options past) (after_effects (effects_of turns) their_past) → Each (IsOfNewTagsBut their_options (after_effects (effects_of turns) their_past)) past
     → MatchOrUnmatched options their_options (after_effects (effects_of turns) their_past) past → AllFound (after_effects (effects_of turns) their_past) past → NoneRestored (after_effects (effects_of turns) their_past) → AreNewTags options their_past past e turns
-new_tags options their_options past [] their_past e ran stands taken calls along opens each their_each matched found none = tt
-new_tags options their_options past (t ∷ turns) their_past e ran stands taken calls along opens each their_each matched found none =
+new_tags options their_options past [] their_past e ran stands taken tells calls along opens each their_each matched found none = tt
+new_tags options their_options past (t ∷ turns) their_past e ran stands taken tells calls along opens each their_each matched found none =
     let split = after_first t.outcome.effects (effects_of turns) their_past in
     let later : Each (IsOfNewTagsBut options past) (after_effects (effects_of turns) (after_effects t.outcome.effects their_past)) = subst (Each (IsOfNewTagsBut options past)) split each in
     let none' : NoneRestored (after_effects (effects_of turns) (after_effects t.outcome.effects their_past)) = subst NoneRestored split none in
@@ -221,9 +223,10 @@ new_tags options their_options past (t ∷ turns) their_past e ran stands taken 
       (
         new_noted options past t.outcome.effects their_past (each_earlier (IsOfNewTagsBut options past) (effects_of turns) (after_effects t.outcome.effects their_past) later),
         crosses options their_options e their_past (after_effects (effects_of (t ∷ turns)) their_past) past (after_within (effects_of (t ∷ turns)) their_past) follows stands.connected their_each matched found,
+        tells.0,
       ),
       new_tags options their_options past turns (after_effects t.outcome.effects their_past) t.outcome.after (next_run options e their_past t ran along.0)
           (stands_after their_past t turns e stands taken calls along opens none')
-          taken.1 calls.1 along.1 opens.1 later (subst (λ (p : List Effect). Each (IsOfNewTagsBut their_options p) past) split their_each) (subst (λ (p : List Effect). MatchOrUnmatched options their_options p past) split matched)
+          taken.1 tells.1 calls.1 along.1 opens.1 later (subst (λ (p : List Effect). Each (IsOfNewTagsBut their_options p) past) split their_each) (subst (λ (p : List Effect). MatchOrUnmatched options their_options p past) split matched)
           (subst (λ (p : List Effect). AllFound p past) split found) none',
     )

@@ -342,7 +342,7 @@ module _ (e : Endpoint) (past : List Effect) (t : Transition) (follows : e.optio
 
   by_becomes : {resets : Option (List ℕ)} {to : ℕ} {adds : _} {taken : _} → Becomes resets (content_of_input t.input) to adds taken e t.outcome → After
   by_becomes (becomes.goes_on calm linked makes) = stays linked
-  by_becomes (becomes.pauses ids resets calm linked small makes) = stays linked
+  by_becomes (becomes.pauses ids resets calm accepted linked small makes) = stays linked
   by_becomes (becomes.works_resets linked between inside ended peer makes) = stays linked
   by_becomes (becomes.renews calm linked alike unread own number emission kept out after packets goes contents) = stays linked
   by_becomes (becomes.ends gone unread silent last own makes below) = λ opens link linked. (let clash : ◌≡◌ {A = Option AssociationIdentity} None (Some link) = sym gone ∙ linked in absurd (cc))

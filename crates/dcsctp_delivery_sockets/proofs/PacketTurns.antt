@@ -23,7 +23,7 @@ use Rattle.dcsctp_delivery_sending.specs.Places as places
 use Rattle.dcsctp_delivery_sending.specs.Flushes.{NoData}
 use Rattle.dcsctp_delivery_turns.specs.Actions.{IsOpening, content_of_input, IsCall}
 use Rattle.dcsctp_delivery_turns.specs.Sides.{WasSent}
-use Rattle.dcsctp_delivery_associations.specs.Ends.{Ends, IsOfEnds, HadBoth, sending_side, receiving_side}
+use Rattle.dcsctp_delivery_associations.specs.Ends.{ResetCalls, Ends, IsOfEnds, HadBoth, sending_side, receiving_side}
 use Rattle.dcsctp_delivery_associations.specs.Laws.{AsksLittle, AreEnds}
 use Rattle.dcsctp_delivery_associations.specs.Reads.{Reading, reading_after, Tags, tags_of, tags_or}
 use Rattle.dcsctp_delivery_sockets.specs.Echoes.{AllMayFollow, ContentsGo, GoesToMaker}
@@ -79,9 +79,9 @@ front_tag tag d (plain chunk) contents t turn go own next = tag_stays tag d (chu
 pub packets_apart : (packets : List Emission) (t : Transition) (turns : List Transition) → (packets ++ packets_of_events t.outcome.events) ++ packets_of_events (events_of turns) ≡ packets ++ packets_of_events (events_of (t ∷ turns))
 packets_apart packets t turns = append_assoc packets (packets_of_events t.outcome.events) (packets_of_events (events_of turns)) ∙ ap (λ (l : List Emission). packets ++ l) (sym (packets_of_events-append t.outcome.events (events_of turns)))
 
-module _ (never_resets : ℕ → Bool) (options : Options) (e : Endpoint) (queued : List Message) (past : List Effect) (packets : List Emission) (few : length queued < 2 ^ 64) (little : AsksLittle packets) (emission : Emission) (has : places.HasEntry emission packets) where
+module _ (calls : ResetCalls) (options : Options) (e : Endpoint) (queued : List Message) (past : List Effect) (packets : List Emission) (few : length queued < 2 ^ 64) (little : AsksLittle packets) (emission : Emission) (has : places.HasEntry emission packets) where
   abbrev Have : List (Event Emission) → Endpoint → List Effect → Reading → Type 0
-  Have seen d their_past reading = AreEnds never_resets seen options (sending_side e queued past packets) (receiving_side d their_past reading)
+  Have seen d their_past reading = AreEnds calls seen options (sending_side e queued past packets) (receiving_side d their_past reading)
 
   -- what is to be shown of turns
   abbrev Leave : List (Event Emission) → Endpoint → List Effect → Reading → List Transition → Type 0
@@ -89,10 +89,10 @@ module _ (never_resets : ℕ → Bool) (options : Options) (e : Endpoint) (queue
 
   -- one turn, and the others
   then_others : (seen : List (Event Emission)) (d : Endpoint) (their_past : List Effect) (reading : Reading) (t : Transition) (turns : List Transition)
-      → Leave (seen ++ t.outcome.events) t.outcome.after (after_effects t.outcome.effects their_past) (reading_after d t.input t.outcome.after reading) turns → Leave seen d their_past reading (t ∷ turns)
+      → Leave (seen ++ t.outcome.events) t.outcome.after (after_effects t.outcome.effects their_past) (reading_after d t.input t.outcome reading) turns → Leave seen d their_past reading (t ∷ turns)
   then_others seen d their_past reading t turns rest =
-      subst (λ (l : List Effect). Have (seen ++ events_of ((t ∷ turns))) (after_all t.outcome.after turns) l (reading_through t.outcome.after turns (reading_after d t.input t.outcome.after reading))) (sym (after_effects-append t.outcome.effects (effects_of turns) their_past))
-      (subst (λ (l : List (Event Emission)). Have l (after_all t.outcome.after turns) (after_effects (effects_of turns) (after_effects t.outcome.effects their_past)) (reading_through t.outcome.after turns (reading_after d t.input t.outcome.after reading))) (append_assoc seen t.outcome.events (events_of turns)) rest)
+      subst (λ (l : List Effect). Have (seen ++ events_of ((t ∷ turns))) (after_all t.outcome.after turns) l (reading_through t.outcome.after turns (reading_after d t.input t.outcome reading))) (sym (after_effects-append t.outcome.effects (effects_of turns) their_past))
+      (subst (λ (l : List (Event Emission)). Have l (after_all t.outcome.after turns) (after_effects (effects_of turns) (after_effects t.outcome.effects their_past)) (reading_through t.outcome.after turns (reading_after d t.input t.outcome reading))) (append_assoc seen t.outcome.events (events_of turns)) rest)
 
   -- no turn
   no_others : (seen : List (Event Emission)) (d : Endpoint) (their_past : List Effect) (reading : Reading) → Have seen d their_past reading → Leave seen d their_past reading []
@@ -101,24 +101,24 @@ module _ (never_resets : ℕ → Bool) (options : Options) (e : Endpoint) (queue
   one_turn : (seen : List (Event Emission)) (d : Endpoint) (their_past : List Effect) (reading : Reading) (input : Input) (t : Transition) → (h : Have seen d their_past reading) → IsTurn d input t
       → AreNewTags options their_past past d (t ∷ [])
       → ((transfer : Transfer) (link : AssociationIdentity) → d.queues.transfer ≡ Some transfer → identity_of_core d.core ≡ Some link → WasSent (h.ends.sends link.peer.tag).sent (content_of_input input) × (HadBoth past link.peer.tag link.my.tag ⊎ WasSent [] (content_of_input input))) → IsCall input
-      → Have (seen ++ t.outcome.events) t.outcome.after (after_effects t.outcome.effects their_past) (reading_after d t.input t.outcome.after reading)
+      → Have (seen ++ t.outcome.events) t.outcome.after (after_effects t.outcome.effects their_past) (reading_after d t.input t.outcome reading)
   one_turn seen d their_past reading input t h turn new sent may =
-      subst (λ (i : Input). Have (seen ++ t.outcome.events) t.outcome.after (after_effects t.outcome.effects their_past) (reading_after d i t.outcome.after reading)) (sym turn.is)
-      (subst (λ (n : ℕ → Bool). AreEnds n (seen ++ t.outcome.events) options (sending_side e queued past packets) (receiving_side t.outcome.after (after_effects t.outcome.effects their_past) (reading_after d input t.outcome.after reading))) h.is
+      subst (λ (i : Input). Have (seen ++ t.outcome.events) t.outcome.after (after_effects t.outcome.effects their_past) (reading_after d i t.outcome reading)) (sym turn.is)
+      (subst (λ (n : ResetCalls). AreEnds n (seen ++ t.outcome.events) options (sending_side e queued past packets) (receiving_side t.outcome.after (after_effects t.outcome.effects their_past) (reading_after d input t.outcome reading))) h.is
       (receiver_turns options h.ends e queued past packets d their_past reading h.between few new.0 input t.outcome (λ begun opening linked. new.1 begun (subst (λ (i : Input). IsOpening (content_of_input i)) (sym turn.is) opening) linked)
-      h.answered little new.3.0 may turn.comes seen h.reported new.2 sent))
+      h.answered little new.3.0 may turn.comes seen h.reported new.3.2 new.2 sent))
 
   -- A chunk that is dropped changes nothing.
   drops : (seen : List (Event Emission)) (d : Endpoint) (their_past : List Effect) (reading : Reading) (tag : ℕ) (content : Content) (t : Transition) (link : AssociationIdentity) → Have seen d their_past reading → IsTurn d (chunk_input tag content) t → identity_of_core d.core ≡ Some link
-      → reading.last ≡ tags_of link → t.outcome ≡ still d → Have (seen ++ t.outcome.events) t.outcome.after (after_effects t.outcome.effects their_past) (reading_after d t.input t.outcome.after reading)
+      → reading.last ≡ tags_of link → t.outcome ≡ still d → Have (seen ++ t.outcome.events) t.outcome.after (after_effects t.outcome.effects their_past) (reading_after d t.input t.outcome reading)
   drops seen d their_past reading tag content t link h turn linked last dropped =
-      subst (λ (i : Input). Have (seen ++ t.outcome.events) t.outcome.after (after_effects t.outcome.effects their_past) (reading_after d i t.outcome.after reading)) (sym turn.is)
-      (subst (λ (x : Outcome). Have (seen ++ x.events) x.after (after_effects x.effects their_past) (reading_after d (chunk_input tag content) x.after reading)) (sym dropped)
-      (subst (λ (l : Tags). Have (seen ++ []) d their_past (record { reads = reading.reads; last = l })) (last ∙ sym (ap (tags_or reading.last) linked)) (no_others seen d their_past reading h)))
+      subst (λ (i : Input). Have (seen ++ t.outcome.events) t.outcome.after (after_effects t.outcome.effects their_past) (reading_after d i t.outcome reading)) (sym turn.is)
+      (subst (λ (x : Outcome). Have (seen ++ x.events) x.after (after_effects x.effects their_past) (reading_after d (chunk_input tag content) x reading)) (sym dropped)
+      (subst (λ (l : Tags). Have (seen ++ []) d their_past (record { reads = reading.reads; last = l; resets = reading.resets })) (last ∙ sym (ap (tags_or reading.last) linked)) (no_others seen d their_past reading h)))
 
   chunk_turn : (seen : List (Event Emission)) (d : Endpoint) (their_past : List Effect) (reading : Reading) (tag : ℕ) (content : Content) (t : Transition) → Have seen d their_past reading → IsTurn d (chunk_input tag content) t
       → AreNewTags options their_past past d (t ∷ []) → MayHandle emission d content
-      → Have (seen ++ t.outcome.events) t.outcome.after (after_effects t.outcome.effects their_past) (reading_after d t.input t.outcome.after reading)
+      → Have (seen ++ t.outcome.events) t.outcome.after (after_effects t.outcome.effects their_past) (reading_after d t.input t.outcome reading)
   chunk_turn seen d their_past reading tag content t h turn new may = by_transfer d.queues.transfer refl
     where
       own_link : (one two : AssociationIdentity) → identity_of_core d.core ≡ Some one → identity_of_core d.core ≡ Some two → one ≡ two
@@ -129,11 +129,11 @@ module _ (never_resets : ℕ → Bool) (options : Options) (e : Endpoint) (queue
 
       goes : ((transfer : Transfer) (link : AssociationIdentity) → d.queues.transfer ≡ Some transfer → identity_of_core d.core ≡ Some link
           → WasSent (h.ends.sends link.peer.tag).sent (Some content) × (HadBoth past link.peer.tag link.my.tag ⊎ WasSent [] (Some content)))
-          → Have (seen ++ t.outcome.events) t.outcome.after (after_effects t.outcome.effects their_past) (reading_after d t.input t.outcome.after reading)
+          → Have (seen ++ t.outcome.events) t.outcome.after (after_effects t.outcome.effects their_past) (reading_after d t.input t.outcome reading)
       goes sent = one_turn seen d their_past reading (chunk_input tag content) t h turn new sent tt
 
       by_link : (transfer : Transfer) → d.queues.transfer ≡ Some transfer → (link : AssociationIdentity) → HasEffect (holds link) their_past → identity_of_core d.core ≡ Some link → link.my.tag ≢ 0
-          → (IsCrossedByEach past link × IsNoneBefore past link) ⊎ ((d.options.follow_rfc ≡ true) × (is_cookie_echoed d.core ≡ true)) → Have (seen ++ t.outcome.events) t.outcome.after (after_effects t.outcome.effects their_past) (reading_after d t.input t.outcome.after reading)
+          → (IsCrossedByEach past link × IsNoneBefore past link) ⊎ ((d.options.follow_rfc ≡ true) × (is_cookie_echoed d.core ≡ true)) → Have (seen ++ t.outcome.events) t.outcome.after (after_effects t.outcome.effects their_past) (reading_after d t.input t.outcome reading)
       by_link transfer there link held linked some (inl crosses) =
           goes (λ other link' there' linked'. subst (λ (l : AssociationIdentity). WasSent (h.ends.sends l.peer.tag).sent (Some content) × (HadBoth past l.peer.tag l.my.tag ⊎ WasSent [] (Some content))) (own_link link link' linked linked')
           (was_sent h.ends past emission (of_ends h.ends past emission packets h.between.sender.all_sent has) d link linked some crosses.0 crosses.1 h.between.sender.replaced content may))
@@ -148,7 +148,7 @@ module _ (never_resets : ℕ → Bool) (options : Options) (e : Endpoint) (queue
           needs_none : comes_early d content ≡ false → needs_connection content ≡ false
           needs_none late = and_true (needs_connection content) (d.options.follow_rfc && is_cookie_echoed d.core) late (ap (λ (b : Bool). b && is_cookie_echoed d.core) follows ∙ echoed)
 
-      by_transfer : (found : Option Transfer) → d.queues.transfer ≡ found → Have (seen ++ t.outcome.events) t.outcome.after (after_effects t.outcome.effects their_past) (reading_after d t.input t.outcome.after reading)
+      by_transfer : (found : Option Transfer) → d.queues.transfer ≡ found → Have (seen ++ t.outcome.events) t.outcome.after (after_effects t.outcome.effects their_past) (reading_after d t.input t.outcome reading)
       by_transfer None nowhere = goes (λ transfer link there linked. (let clash : ◌≡◌ {A = Option Transfer} None (Some transfer) = sym nowhere ∙ there in absurd (cc)))
       by_transfer (Some transfer) there =
           let c = h.between.receiver.current transfer there in
@@ -159,21 +159,21 @@ module _ (never_resets : ℕ → Bool) (options : Options) (e : Endpoint) (queue
   IsTail tail = (tail ≡ []) ⊎ ((asks : Bool) × (tail ≡ packet_ends ∷ asked_again asks))
 
   end_goes : (seen : List (Event Emission)) (d : Endpoint) (their_past : List Effect) (reading : Reading) (t : Transition) (turns : List Transition) → Have seen d their_past reading → AreNewTags options their_past past d (t ∷ turns) → IsTurn d packet_ends t
-      → Have (seen ++ t.outcome.events) t.outcome.after (after_effects t.outcome.effects their_past) (reading_after d t.input t.outcome.after reading)
+      → Have (seen ++ t.outcome.events) t.outcome.after (after_effects t.outcome.effects their_past) (reading_after d t.input t.outcome reading)
   end_goes seen d their_past reading t turns h new turn =
       one_turn seen d their_past reading packet_ends t h turn (new.0, new.1, new.2, new.3, tt) (λ transfer link there linked. (tt, inr tt)) tt
 
   ends_go : (asks : Bool) (seen : List (Event Emission)) (d : Endpoint) (their_past : List Effect) (reading : Reading) (turns : List Transition) → Have seen d their_past reading → AreNewTags options their_past past d turns
       → Turns d (packet_ends ∷ asked_again asks) turns → Leave seen d their_past reading turns
   ends_go asks seen d their_past reading [] h new taken = absurd taken
-  ends_go false seen d their_past reading (t ∷ []) h new taken = then_others seen d their_past reading t [] (no_others (seen ++ t.outcome.events) t.outcome.after (after_effects t.outcome.effects their_past) (reading_after d t.input t.outcome.after reading) (end_goes seen d their_past reading t [] h new taken.0))
+  ends_go false seen d their_past reading (t ∷ []) h new taken = then_others seen d their_past reading t [] (no_others (seen ++ t.outcome.events) t.outcome.after (after_effects t.outcome.effects their_past) (reading_after d t.input t.outcome reading) (end_goes seen d their_past reading t [] h new taken.0))
   ends_go false seen d their_past reading (t ∷ other ∷ turns) h new taken = absurd taken.1
   ends_go true seen d their_past reading (t ∷ []) h new taken = absurd taken.1
   ends_go true seen d their_past reading (t ∷ u ∷ []) h new taken =
       then_others seen d their_past reading t (u ∷ [])
-      (then_others (seen ++ t.outcome.events) t.outcome.after (after_effects t.outcome.effects their_past) (reading_after d t.input t.outcome.after reading) u []
-      (no_others ((seen ++ t.outcome.events) ++ u.outcome.events) u.outcome.after (after_effects u.outcome.effects (after_effects t.outcome.effects their_past)) (reading_after t.outcome.after u.input u.outcome.after (reading_after d t.input t.outcome.after reading))
-      (one_turn (seen ++ t.outcome.events) t.outcome.after (after_effects t.outcome.effects their_past) (reading_after d t.input t.outcome.after reading) (act_input shut_down) u
+      (then_others (seen ++ t.outcome.events) t.outcome.after (after_effects t.outcome.effects their_past) (reading_after d t.input t.outcome reading) u []
+      (no_others ((seen ++ t.outcome.events) ++ u.outcome.events) u.outcome.after (after_effects u.outcome.effects (after_effects t.outcome.effects their_past)) (reading_after t.outcome.after u.input u.outcome (reading_after d t.input t.outcome reading))
+      (one_turn (seen ++ t.outcome.events) t.outcome.after (after_effects t.outcome.effects their_past) (reading_after d t.input t.outcome reading) (act_input shut_down) u
       (end_goes seen d their_past reading t (u ∷ []) h new taken.0) taken.1.0 (new.4.0, new.4.1, new.4.2, new.4.3, tt) (λ transfer link there linked. (tt, inr tt)) tt)))
   ends_go true seen d their_past reading (t ∷ u ∷ other ∷ turns) h new taken = absurd taken.1.1
 
@@ -213,8 +213,8 @@ module _ (never_resets : ℕ → Bool) (options : Options) (e : Endpoint) (queue
   chunks_go (content ∷ contents) seen d their_past reading tag tail (t ∷ turns) h new is may taken =
       let first = chunk_turn seen d their_past reading tag content t h taken.0 (new.0, new.1, new.2, new.3, tt) (first_may d content contents may) in
       then_others seen d their_past reading t turns
-      (after_chunk t.outcome.following (seen ++ t.outcome.events) t.outcome.after (after_effects t.outcome.effects their_past) (reading_after d t.input t.outcome.after reading) tail turns (ChunkTurns t.outcome.after tag contents tail turns) first new.4 is
-      (λ more. chunks_go contents (seen ++ t.outcome.events) t.outcome.after (after_effects t.outcome.effects their_past) (reading_after d t.input t.outcome.after reading) tag tail turns first new.4 is (rest_may d content contents tag t taken.0 may) more) taken.1)
+      (after_chunk t.outcome.following (seen ++ t.outcome.events) t.outcome.after (after_effects t.outcome.effects their_past) (reading_after d t.input t.outcome reading) tail turns (ChunkTurns t.outcome.after tag contents tail turns) first new.4 is
+      (λ more. chunks_go contents (seen ++ t.outcome.events) t.outcome.after (after_effects t.outcome.effects their_past) (reading_after d t.input t.outcome reading) tag tail turns first new.4 is (rest_may d content contents tag t taken.0 may) more) taken.1)
 
   -- ---- the first chunk
 
@@ -241,16 +241,16 @@ module _ (never_resets : ℕ → Bool) (options : Options) (e : Endpoint) (queue
       let first = chunk_turn seen d their_past reading emission.packet.tag content t h taken.0 (new.0, new.1, new.2, new.3, tt) (front_may d content contents is own) in
       then_others seen d their_past reading t turns (more t.outcome.following refl first taken.1)
     where
-      more : (following : Following) → t.outcome.following ≡ following → Have (seen ++ t.outcome.events) t.outcome.after (after_effects t.outcome.effects their_past) (reading_after d t.input t.outcome.after reading)
+      more : (following : Following) → t.outcome.following ≡ following → Have (seen ++ t.outcome.events) t.outcome.after (after_effects t.outcome.effects their_past) (reading_after d t.input t.outcome reading)
           → AfterChunk following (ChunkTurns t.outcome.after emission.packet.tag contents (packet_ends ∷ asked_again asks) turns) (Turns t.outcome.after (packet_ends ∷ asked_again asks) turns) (turns ≡ [])
-          → Leave (seen ++ t.outcome.events) t.outcome.after (after_effects t.outcome.effects their_past) (reading_after d t.input t.outcome.after reading) turns
+          → Leave (seen ++ t.outcome.events) t.outcome.after (after_effects t.outcome.effects their_past) (reading_after d t.input t.outcome reading) turns
       more next_chunk next first rest =
-          chunks_go contents (seen ++ t.outcome.events) t.outcome.after (after_effects t.outcome.effects their_past) (reading_after d t.input t.outcome.after reading) emission.packet.tag (packet_ends ∷ asked_again asks) turns first new.4 (inr (asks, refl))
+          chunks_go contents (seen ++ t.outcome.events) t.outcome.after (after_effects t.outcome.effects their_past) (reading_after d t.input t.outcome reading) emission.packet.tag (packet_ends ∷ asked_again asks) turns first new.4 (inr (asks, refl))
           (inr (go.1, (λ c has'. subst (λ (l : List Content). places.HasEntry c l) (sym is) (inr has')), front_tag emission.packet.tag d content contents t taken.0 go own next)) rest
-      more packet_end next first rest = ends_go asks (seen ++ t.outcome.events) t.outcome.after (after_effects t.outcome.effects their_past) (reading_after d t.input t.outcome.after reading) turns first new.4 rest
+      more packet_end next first rest = ends_go asks (seen ++ t.outcome.events) t.outcome.after (after_effects t.outcome.effects their_past) (reading_after d t.input t.outcome reading) turns first new.4 rest
       more dropped_rest next first none =
-          subst (λ (ts : List Transition). Leave (seen ++ t.outcome.events) t.outcome.after (after_effects t.outcome.effects their_past) (reading_after d t.input t.outcome.after reading) ts) (sym none)
-          (no_others (seen ++ t.outcome.events) t.outcome.after (after_effects t.outcome.effects their_past) (reading_after d t.input t.outcome.after reading) first)
+          subst (λ (ts : List Transition). Leave (seen ++ t.outcome.events) t.outcome.after (after_effects t.outcome.effects their_past) (reading_after d t.input t.outcome reading) ts) (sym none)
+          (no_others (seen ++ t.outcome.events) t.outcome.after (after_effects t.outcome.effects their_past) (reading_after d t.input t.outcome reading) first)
 
   -- ---- the whole packet
 
@@ -262,12 +262,12 @@ module _ (never_resets : ℕ → Bool) (options : Options) (e : Endpoint) (queue
       let first = one_turn seen d their_past reading (packet_begins emission.packet.contents) begun h taken.0 (new.0, new.1, new.2, new.3, tt) (λ transfer link there linked. (tt, inr tt)) tt in
       then_others seen d their_past reading begun turns (by_data first first.ends (of_ends first.ends past emission packets first.between.sender.all_sent has))
     where
-      by_data : Have (seen ++ begun.outcome.events) begun.outcome.after (after_effects begun.outcome.effects their_past) (reading_after d begun.input begun.outcome.after reading) → (table : Ends) → IsOfEnds table past emission
-          → Leave (seen ++ begun.outcome.events) begun.outcome.after (after_effects begun.outcome.effects their_past) (reading_after d begun.input begun.outcome.after reading) turns
+      by_data : Have (seen ++ begun.outcome.events) begun.outcome.after (after_effects begun.outcome.effects their_past) (reading_after d begun.input begun.outcome reading) → (table : Ends) → IsOfEnds table past emission
+          → Leave (seen ++ begun.outcome.events) begun.outcome.after (after_effects begun.outcome.effects their_past) (reading_after d begun.input begun.outcome reading) turns
       by_data first table (inl none) =
-          chunks_go emission.packet.contents (seen ++ begun.outcome.events) begun.outcome.after (after_effects begun.outcome.effects their_past) (reading_after d begun.input begun.outcome.after reading) emission.packet.tag (packet_tail begun.outcome.after) turns first new.4 (inr (awaits_opening begun.outcome.after begun.outcome.after.core, refl)) (inl none) taken.1
+          chunks_go emission.packet.contents (seen ++ begun.outcome.events) begun.outcome.after (after_effects begun.outcome.effects their_past) (reading_after d begun.input begun.outcome reading) emission.packet.tag (packet_tail begun.outcome.after) turns first new.4 (inr (awaits_opening begun.outcome.after begun.outcome.after.core, refl)) (inl none) taken.1
       by_data first table (inr (free, was)) =
-          tagged_go (awaits_opening begun.outcome.after begun.outcome.after.core) emission.packet.contents refl (seen ++ begun.outcome.events) begun.outcome.after (after_effects begun.outcome.effects their_past) (reading_after d begun.input begun.outcome.after reading) turns first new.4 go
+          tagged_go (awaits_opening begun.outcome.after begun.outcome.after.core) emission.packet.contents refl (seen ++ begun.outcome.events) begun.outcome.after (after_effects begun.outcome.effects their_past) (reading_after d begun.input begun.outcome reading) turns first new.4 go
           (λ front. ap own_tag (begin_core d d.core (has_data_chunk d.options.follow_rfc emission.packet.contents) begun.outcome taken.0.comes) ∙ sym (addressed_tags_are_own d.core emission.packet free front admitted)) taken.1
 
   refused_go : (seen : List (Event Emission)) (d : Endpoint) (their_past : List Effect) (reading : Reading) (text : List ℕ) (turns : List Transition) → Have seen d their_past reading → AreNewTags options their_past past d turns → Turns d (refusal text ∷ []) turns
@@ -275,7 +275,7 @@ module _ (never_resets : ℕ → Bool) (options : Options) (e : Endpoint) (queue
   refused_go seen d their_past reading text [] h new taken = absurd taken
   refused_go seen d their_past reading text (t ∷ []) h new taken =
       then_others seen d their_past reading t []
-      (no_others (seen ++ t.outcome.events) t.outcome.after (after_effects t.outcome.effects their_past) (reading_after d t.input t.outcome.after reading)
+      (no_others (seen ++ t.outcome.events) t.outcome.after (after_effects t.outcome.effects their_past) (reading_after d t.input t.outcome reading)
       (one_turn seen d their_past reading (refusal text) t h taken.0 (new.0, new.1, new.2, new.3, tt) (λ transfer link there linked. (tt, inr tt)) tt))
   refused_go seen d their_past reading text (t ∷ other ∷ turns) h new taken = absurd taken.1
 

@@ -151,7 +151,7 @@ module _ (table : Ends) (past : List Effect) (emission : Emission) (is : IsOfEnd
 
 by_becomes : {resets : Option (List ℕ)} {to : ℕ} {adds : _} {taken : _} (tag : ℕ) (e : Endpoint) (came : Option Content) (o : Outcome) → (IsOpening came → ⊥) → TagIs tag e → Becomes resets came to adds taken e o → TagIs tag o.after
 by_becomes tag e came o not is (goes_on calm linked makes) = λ link there. is link (sym linked ∙ there)
-by_becomes tag e came o not is (pauses ids resets calm linked small makes) = λ link there. is link (sym linked ∙ there)
+by_becomes tag e came o not is (pauses ids resets calm accepted linked small makes) = λ link there. is link (sym linked ∙ there)
 by_becomes tag e came o not is (works_resets linked between worked ended peer makes) = λ link there. is link (sym linked ∙ there)
 by_becomes tag e came o not is (renews calm linked alike unread own number emission kept out after packets goes contents) = λ link there. is link (sym linked ∙ there)
 by_becomes tag e came o not is (ends none unread silent last own makes below) = λ link there. (let clash : ◌≡◌ {A = Option AssociationIdentity} None (Some link) = sym none ∙ there in absurd (cc))

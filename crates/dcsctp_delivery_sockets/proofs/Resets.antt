@@ -1,19 +1,20 @@
 -- The resets of streams that a user is told are performed are those of which the other user was told.
 use Rattle.dcsctp_spec_lemmas.specs.spec.association.Effect as effects
-use Rattle.std.proofs.Common.{ℕ, List, [], ◌∷◌, ◌++◌, map, inl, inr, subst, refl}
+use Rattle.std.proofs.Common.{◌≡◌, ℕ, true, List, [], ◌∷◌, ◌++◌, map, inl, inr, subst, refl}
 use Rattle.std.specs.List.{AllByRecursion}
 use Rattle.dcsctp_spec_lemmas.specs.types.declared.association.Pair.{Pair}
 use Rattle.dcsctp_spec_lemmas.specs.spec.Packet.{Emission}
-use Rattle.dcsctp_spec_lemmas.specs.spec.association.Controlled.{own_reset_performed, observations_of_effects}
+use Rattle.dcsctp_spec_lemmas.specs.spec.association.Controlled.{own_reset_performed, peer_reset_performed, observations_of_effects}
 use Rattle.dcsctp_spec_lemmas.specs.spec.association.Effect.{Effect, completes}
 use Rattle.dcsctp_spec_lemmas.specs.spec.endpoint.BegunResets.{stream_field}
 use Rattle.dcsctp_spec_lemmas.specs.spec.endpoint.CallTurns.{Transition, events_of}
+use Rattle.dcsctp_spec_lemmas.specs.spec.endpoint.ResetOutcomes.{has_reset}
 use Rattle.dcsctp_spec_lemmas.specs.spec.endpoint.Event.{Event, connected, closed, aborted, streams_reset_failed, streams_reset_performed, incoming_stream_reset}
 use Rattle.dcsctp_spec_runs.specs.Past.{HasEffect}
 use Rattle.dcsctp_theorem_sockets.specs.Telling.{observations_of_ends, ReportsRecorded}
 use Rattle.dcsctp_delivery_sending.specs.Places.{HasEntry}
 use Rattle.dcsctp_delivery_turns.proofs.Telling.{entry_either, entry_front}
-use Rattle.dcsctp_delivery_associations.specs.Laws.{ResetsWereSeen}
+use Rattle.dcsctp_delivery_associations.specs.Laws.{TellsPerformed, ResetsWereSeen}
 
 -- ---- one turn
 
@@ -54,6 +55,48 @@ observed_completes (effects.fails number ∷ happened) (inr has) = completed_lat
 observed_completes (effects.performs peer number ∷ happened) (inl is) = absurd (cc)
 observed_completes (effects.performs peer number ∷ happened) (inr has) = completed_later (effects.performs peer number) happened (observed_completes happened has)
 observed_completes (effect ∷ happened) has = completed_later effect happened (observed_completes happened has)
+
+-- ---- what the peer has reset
+
+peer_observed : (streams : List ℕ) (events : List (Event Emission)) → HasEntry (incoming_stream_reset streams) events → HasEntry peer_reset_performed (observations_of_ends events)
+peer_observed streams [] has = absurd has
+peer_observed streams (incoming_stream_reset others ∷ events) has = inl refl
+peer_observed streams (connected ∷ events) (inl is) = absurd (cc)
+peer_observed streams (connected ∷ events) (inr has) = inr (peer_observed streams events has)
+peer_observed streams (closed ∷ events) (inl is) = absurd (cc)
+peer_observed streams (closed ∷ events) (inr has) = inr (peer_observed streams events has)
+peer_observed streams (aborted kind text ∷ events) (inl is) = absurd (cc)
+peer_observed streams (aborted kind text ∷ events) (inr has) = inr (peer_observed streams events has)
+peer_observed streams (streams_reset_failed others ∷ events) (inl is) = absurd (cc)
+peer_observed streams (streams_reset_failed others ∷ events) (inr has) = inr (peer_observed streams events has)
+peer_observed streams (streams_reset_performed others ∷ events) (inl is) = absurd (cc)
+peer_observed streams (streams_reset_performed others ∷ events) (inr has) = inr (peer_observed streams events has)
+peer_observed streams (event ∷ events) (inl is) = absurd (cc)
+peer_observed streams (event ∷ events) (inr has) = peer_observed streams events has
+
+observed_performs : (happened : List Effect) → HasEntry peer_reset_performed (observations_of_effects happened) → has_reset happened ≡ true
+observed_performs [] has = absurd has
+observed_performs (effects.performs peer number ∷ happened) has = refl
+observed_performs (effects.renews peer number ∷ happened) has = refl
+observed_performs (effects.sends packet ∷ happened) (inl is) = absurd (cc)
+observed_performs (effects.sends packet ∷ happened) (inr has) = observed_performs happened has
+observed_performs (effects.connects link ∷ happened) (inl is) = absurd (cc)
+observed_performs (effects.connects link ∷ happened) (inr has) = observed_performs happened has
+observed_performs (effects.ends ∷ happened) (inl is) = absurd (cc)
+observed_performs (effects.ends ∷ happened) (inr has) = observed_performs happened has
+observed_performs (effects.fails number ∷ happened) (inl is) = absurd (cc)
+observed_performs (effects.fails number ∷ happened) (inr has) = observed_performs happened has
+observed_performs (effects.completes my number ∷ happened) (inl is) = absurd (cc)
+observed_performs (effects.completes my number ∷ happened) (inr has) = observed_performs happened has
+observed_performs (effect ∷ happened) has = observed_performs happened has
+
+-- The user is told of a reset of the peer only where one is performed.
+pub all_tell : (turns : List Transition) → AllByRecursion ReportsRecorded turns → AllByRecursion (λ turn. TellsPerformed turn.outcome) turns
+all_tell [] each = tt
+all_tell (turn ∷ turns) each = (
+  λ streams told. observed_performs turn.outcome.effects (subst (HasEntry peer_reset_performed) each.0 (peer_observed streams turn.outcome.events told)),
+  all_tell turns each.1,
+)
 
 -- ---- all turns
 

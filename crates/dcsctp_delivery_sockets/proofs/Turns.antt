@@ -169,7 +169,7 @@ module _ (kinds : Capabilities) where
       → Becomes resets came to adds taken e o → TurnIs e came o
   becomes_is came to adds taken e o h so (goes_on calm linked makes) =
       stays_is came e o h linked (makes_is came to adds taken (inside e) (inside o.after) (packets_of_events o.events) (record { left = h.left; asks = h.asks }) makes)
-  becomes_is came to adds taken e o h so (pauses ids resets calm linked small makes) =
+  becomes_is came to adds taken e o h so (pauses ids resets calm accepted linked small makes) =
       stays_is came e o h linked (makes_is came to adds taken (prepared_inside ids (inside e)) (inside o.after) (packets_of_events o.events) (record { left = h.left; asks = h.asks }) makes)
   becomes_is came to adds taken e o h so (works_resets linked between worked ended peer makes) =
       let worked_is : InsideIs worked = peer_resets came o.effects between worked (own_ends o.effects (inside e) between (record { left = h.left; asks = h.asks }) ended) peer in

@@ -144,7 +144,7 @@ input_read tag e (restores state) reads = sym (append-nil (messages_of reads))
 pub turns_read : (e : Endpoint) (turns : List Transition) (reading : Reading) → messages_of (reading_through e turns reading).reads ≡ messages_of reading.reads ++ read_of e turns
 turns_read e [] reading = sym (append-nil (messages_of reading.reads))
 turns_read e (turn ∷ turns) reading =
-    turns_read turn.outcome.after turns (reading_after e turn.input turn.outcome.after reading)
+    turns_read turn.outcome.after turns (reading_after e turn.input turn.outcome reading)
     ∙ ap (λ (l : List MessageContent). l ++ read_of turn.outcome.after turns) (input_read reading.last e turn.input reading.reads)
     ∙ append_assoc (messages_of reading.reads) (messages_read_of_input e turn.input) (read_of turn.outcome.after turns)
 

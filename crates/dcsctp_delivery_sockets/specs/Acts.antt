@@ -1,5 +1,5 @@
 -- What two sockets do one after another, and all their associations.
-use Rattle.std.specs.Prelude.{◌≡◌, ◌⊎◌, ◌<◌, ◌^◌, ℕ, Bool, Some, List, [], ◌∷◌, ◌++◌, length}
+use Rattle.std.specs.Prelude.{◌≡◌, ◌⊎◌, ◌<◌, ◌^◌, ℕ, Some, List, [], ◌∷◌, ◌++◌, length}
 use Rattle.std.specs.List.{AllByRecursion}
 use Rattle.dcsctp_spec_lemmas.specs.wire.Content.{PacketContent}
 use Rattle.dcsctp_spec_lemmas.specs.wire.Format.{IsPacket}
@@ -18,7 +18,7 @@ use Rattle.dcsctp_delivery_sending.specs.Log.{Message}
 use Rattle.dcsctp_delivery_sending.specs.Places as places
 use Rattle.dcsctp_delivery_turns.specs.Actions.{content_of_input, queued_after, IsOpening, BeginsAssociation, IsCall}
 use Rattle.dcsctp_delivery_associations.specs.Answered.{AreAnswered}
-use Rattle.dcsctp_delivery_associations.specs.Ends.{Ends, NewPeer, TakesOver, AreSeen, CameBack, Between, sending_side, receiving_side}
+use Rattle.dcsctp_delivery_associations.specs.Ends.{ResetCalls, Ends, NewPeer, TakesOver, AreSeen, CameBack, Between, sending_side, receiving_side}
 use Rattle.dcsctp_delivery_turns.specs.Runs.{RefusesNone}
 use Rattle.dcsctp_delivery_associations.specs.Laws.{CompletesPerformed, AsksLittle, ResetsAs, AreEnds}
 use Rattle.dcsctp_delivery_associations.specs.Reads.{Reading}
@@ -48,9 +48,10 @@ AreNewPeers past their_past e (turn ∷ turns) =
     × (turn.outcome.after.options.follow_rfc ≡ e.options.follow_rfc)
     × AreNewPeers (after_effects turn.outcome.effects past) their_past turn.outcome.after turns
 
--- The user resets no stream by this turn, if it never does.
-abbrev pub ResetsAsAllowed : (ℕ → Bool) → Endpoint → Transition → Type 0
-ResetsAsAllowed never_resets e turn = ResetsAs never_resets turn.input
+-- The user resets streams by these turns as it does, if these messages were queued before.
+abbrev pub ResetsThrough : ResetCalls → Endpoint → List Message → List Transition → Type 0
+ResetsThrough calls e queued [] = Unit {0}
+ResetsThrough calls e queued (turn ∷ turns) = ResetsAs calls (length queued) e turn.input × ResetsThrough calls turn.outcome.after (queued_after e turn.input queued) turns
 
 -- In an association what is handled by this turn and acknowledges was in one of these packets, to our own tag.
 abbrev pub HearsBack : List Emission → Endpoint → Transition → Type 0
@@ -61,9 +62,9 @@ abbrev pub SendersAct : Type 0
 SendersAct =
     (seen : List (Event Emission)) (options : Options) (ends : Ends) (e : Endpoint) (queued : List Message) (past : List Effect) (packets : List Emission) (other : Endpoint) (their_past : List Effect) (reading : Reading) (turns : List Transition)
     → Between options ends (sending_side e queued past packets) (receiving_side other their_past reading) → AreAnswered ends e past other their_past → AreSeen ends other their_past seen → AreTurns e turns
-    → AlongTurns (ResetsAsAllowed ends.never_resets) e turns → AlongTurns (HearsBack (packets_of_events seen)) e turns → AreNewPeers past their_past e turns → length (queued_through e turns queued) < 2 ^ 64
+    → ResetsThrough ends.calls e queued turns → AlongTurns (HearsBack (packets_of_events seen)) e turns → AreNewPeers past their_past e turns → length (queued_through e turns queued) < 2 ^ 64
     → AsksLittle (packets ++ packets_of_events (events_of turns))
-    → AreEnds ends.never_resets seen options (sending_side (after_all e turns) (queued_through e turns queued) (after_effects (effects_of turns) past) (packets ++ packets_of_events (events_of turns))) (receiving_side other their_past reading)
+    → AreEnds ends.calls seen options (sending_side (after_all e turns) (queued_through e turns queued) (after_effects (effects_of turns) past) (packets ++ packets_of_events (events_of turns))) (receiving_side other their_past reading)
 
 -- So does a call at the receiver,
 abbrev pub ReceiversCall : Type 0
@@ -71,7 +72,7 @@ ReceiversCall =
     (seen : List (Event Emission)) (options : Options) (ends : Ends) (e : Endpoint) (queued : List Message) (past : List Effect) (packets : List Emission) (other : Endpoint) (their_past : List Effect) (reading : Reading) (call : CallContent) (turns : List Transition)
     → Between options ends (sending_side e queued past packets) (receiving_side other their_past reading) → AreAnswered ends e past other their_past → AreSeen ends other their_past seen → length queued < 2 ^ 64 → AsksLittle packets → UserTurns other call turns → AreTurns other turns
     → AllByRecursion (λ turn. IsCall turn.input) turns → AreNewTags options their_past past other turns
-    → AreEnds ends.never_resets (seen ++ events_of turns) options (sending_side e queued past packets) (receiving_side (after_all other turns) (after_effects (effects_of turns) their_past) (reading_through other turns reading))
+    → AreEnds ends.calls (seen ++ events_of turns) options (sending_side e queued past packets) (receiving_side (after_all other turns) (after_effects (effects_of turns) their_past) (reading_through other turns reading))
 
 -- and so do bytes that are handed to it, if they are those of a packet that was sent.
 abbrev pub ReceiversHandle : Type 0
@@ -80,4 +81,4 @@ ReceiversHandle =
     (bytes : List ℕ) (turns : List Transition) → Between options ends (sending_side e queued past packets) (receiving_side other their_past reading) → AreAnswered ends e past other their_past → AreSeen ends other their_past seen → length queued < 2 ^ 64 → AsksLittle packets
     → places.HasEntry emission packets → GoesToMaker emission → ((packet : PacketContent) → IsPacket (wire_options other.options) packet bytes → packet_of_content packet ≡ emission.packet)
     → AreNewTags options their_past past other turns → HandleInput other bytes turns
-    → AreEnds ends.never_resets (seen ++ events_of turns) options (sending_side e queued past packets) (receiving_side (after_all other turns) (after_effects (effects_of turns) their_past) (reading_through other turns reading))
+    → AreEnds ends.calls (seen ++ events_of turns) options (sending_side e queued past packets) (receiving_side (after_all other turns) (after_effects (effects_of turns) their_past) (reading_through other turns reading))

@@ -20,7 +20,8 @@ use Rattle.dcsctp_delivery_sending.specs.Queueing.{SettingFits}
 use Rattle.dcsctp_delivery_directions.specs.Requests.{requests_to}
 use Rattle.dcsctp_delivery_turns.specs.Runs.{RefusesNone}
 use Rattle.dcsctp_delivery_associations.specs.InOrder.{Interleaves, AreThrough}
-use Rattle.dcsctp_delivery_sockets.specs.Ordered.{HasOneTag, IsDeliveredOn, AllowsOrder, AllowsNoGaps, IsDeliveredInOrder, IsDeliveredWithoutGaps, IsReliable, IsDeliveredByStream, IsDeliveredAllOn, read_under}
+use Rattle.dcsctp_delivery_sockets.specs.Epochs.{HasReset, ReportsPeerReset, IsDeliveredByEpoch}
+use Rattle.dcsctp_delivery_sockets.specs.Ordered.{HasOneTag, StartsAtZero, IsDeliveredOn, AllowsOrder, AllowsNoGaps, IsDeliveredInOrder, IsDeliveredWithoutGaps, IsReliable, IsDeliveredByStream, IsDeliveredAllOn, read_under}
 use Rattle.dcsctp_delivery_sockets.specs.UserMessages.{messages_of_turns, sendings_of_turns, read_of, IsDelivered}
 
 -- ---- messages and streams in memory
@@ -159,7 +160,8 @@ pub record TurnsAllowDelivery (options : Both Options) (turns : Both (List Trans
 -- it, and is a prefix of that where the other side allows no gaps. Where the other side had no other own tag, it is a prefix on each
 -- reliable stream, whatever happens on other streams; and it is all, without interleaving, once the other side has nothing left
 -- that waits or isn't acknowledged, and this side no message ready. Where messages interleave, other streams come in order besides. And each
--- reset of streams that the other side's user was told is performed, this side's user was told of.
+-- reset of streams that the other side's user was told is performed, this side's user was told of. With interleaving each reset that
+-- this side's user was told of separates what the other side's user sent before it asked for that from what it sent since.
 pub record Delivers (options : Both Options) (turns : Both (List Transition)) (side : Side) : Type 0 where
   pub once : IsDelivered (messages_of_turns (fresh_endpoint (of_other side options)) (of_other side turns)) (read_of (fresh_endpoint (of_side side options)) (of_side side turns))
   pub in_order : (tag : ℕ) → AllowsOrder (of_other side options) (of_other side turns) tag
@@ -175,6 +177,9 @@ pub record Delivers (options : Both Options) (turns : Both (List Transition)) (s
       → (through : AreThrough (endpoint_after (of_other side options) (of_other side turns)) (endpoint_after (of_side side options) (of_side side turns)))
       → IsDeliveredAllOn (IsReliable (of_other side options) (of_other side turns)) (sendings_of_turns (fresh_endpoint (of_other side options)) (of_other side turns)) (read_under through.theirs.my.tag (of_side side options) (of_side side turns))
   pub shared_resets : SharesResets (of_other side turns) (of_side side turns)
+  pub by_epoch : (tag : ℕ) → StartsAtZero (of_other side options) (of_other side turns) → Interleaves (recorded_past (of_other side turns)) tag
+      → IsDeliveredByEpoch (HasReset (of_other side options) (of_other side turns)) (ReportsPeerReset (of_side side options) (of_side side turns) tag)
+      (sendings_of_turns (fresh_endpoint (of_other side options)) (of_other side turns)) (read_under tag (of_side side options) (of_side side turns))
 
 -- So it is at the end of a run that is honest, in which no tag was drawn twice, each served one association or two of which the one
 -- took the place of the other, little was sent, and with interleaving no request to reset streams failed.

@@ -3,6 +3,7 @@ pub mod Packets
 pub mod Acts
 pub mod UserMessages
 pub mod Ordered
+pub mod Epochs
 pub mod Delivery
 pub mod Retransmitting
 pub mod Shown

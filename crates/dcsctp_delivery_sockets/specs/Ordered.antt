@@ -100,11 +100,14 @@ pub record AllowsDataOrder (options : Options) (turns : List Transition) (tag : 
 abbrev pub HasOneTag : List Effect → Type 0
 HasOneTag past = (one other : AssociationIdentity) → HasEffect (holds one) past → HasEffect (holds other) past → one.my.tag ≡ other.my.tag
 
--- All that order asks of the sender and its association whose peer has this tag, beside what delivery asks. It follows the RFC,
--- or had no other own tag, so that the numbers of each stream begin at 0 (RFC 9260, section 6.5). And either messages interleave
--- (RFC 8260), or what order asks of DATA is so (`AllowsDataOrder`).
+-- The sender follows the RFC, or had no other own tag, so that the numbers of each stream begin at 0 (RFC 9260, section 6.5).
+abbrev pub StartsAtZero : Options → List Transition → Type 0
+StartsAtZero options turns = (options.follow_rfc ≡ true) ⊎ HasOneTag (recorded_past turns)
+
+-- All that order asks of the sender and its association whose peer has this tag, beside what delivery asks. Either messages
+-- interleave (RFC 8260), or what order asks of DATA is so (`AllowsDataOrder`).
 pub record AllowsOrder (options : Options) (turns : List Transition) (tag : ℕ) : Type 0 where
-  pub starts_at_zero : (options.follow_rfc ≡ true) ⊎ HasOneTag (recorded_past turns)
+  pub starts_at_zero : StartsAtZero options turns
   pub numbering : Interleaves (recorded_past turns) tag ⊎ AllowsDataOrder options turns tag
 
 -- All that it takes for nothing to be missing: the sender had no other own tag, no message may be abandoned, and its user has never

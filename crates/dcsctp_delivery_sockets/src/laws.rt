@@ -55,7 +55,9 @@ pub fn acts_keep_ends()
 /// interleave, across resets of the stream, or no request to reset streams was sent, and no message may be abandoned or
 /// few are ordered. Where the sender has no other own tag, those of a stream that its user never resets, and of which
 /// none may be abandoned, are a prefix of what was sent, whatever happens on other streams. And each reset of streams
-/// that a user is told is performed, the peer's user was told of, with the same streams.
+/// that a user is told is performed, the peer's user was told of, with the same streams. Where messages interleave, each
+/// reset that a user is told its peer has made, the peer's user asked for by a call that was accepted: of a stream that
+/// it names, the ordered messages read before, or ready by then, were sent before that call, and those read later since.
 pub fn sockets_deliver()
     ensures { SocketsDeliver }
 {

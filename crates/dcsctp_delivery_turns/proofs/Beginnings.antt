@@ -9,6 +9,7 @@ use Rattle.dcsctp_spec_lemmas.specs.spec.endpoint.Outcome.{Outcome}
 use Rattle.dcsctp_spec_lemmas.specs.spec.association.Effect.{identity_of_core}
 use Rattle.dcsctp_spec_lemmas.specs.spec.Packet.{Content}
 use Rattle.dcsctp_spec_lemmas.specs.spec.endpoint.Turn.{Input, arrival, refusal, packet_begins, chunk_input, packet_ends, act_input, user_sets, user_sends, user_resets, user_takes, timer_expires, time_passes, restores}
+use Rattle.dcsctp_spec_lemmas.specs.spec.queues.OwnResets.{is_open_pause}
 use Rattle.dcsctp_spec_lemmas.specs.spec.queues.SendQueue.{SendQueueState, queue_restarted, put_back, numbered_for, numbered_if_new, is_other, empty_queue}
 use Rattle.dcsctp_spec_lemmas.specs.spec.queues.Transfer.{EndpointQueues}
 use Rattle.dcsctp_spec_lemmas.specs.spec.endpoint.MessageOutcomes.{MessageRefusal, Sending, sending_refusal, queue_one}
@@ -82,7 +83,7 @@ pub anew_runs : (options : Options) (first size : ℕ) (queued : List Message) (
     → BeginsAs beginning queued below.queue → DirectionRun options first size (new_direction options first size queued below 0 [] beginning)
 anew_runs options first size queued below beginning fit queues none begun =
     directions.begins (new_direction options first size queued below 0 [] beginning)
-    (record { fit = fit; queues = queues; flight = none; acknowledged = refl; sent = refl; first_is = refl; tracker = refl; reassembly = refl; read = refl; asking = refl; begun = begun })
+    (record { fit = fit; queues = queues; flight = none; acknowledged = refl; sent = refl; first_is = refl; tracker = refl; reassembly = refl; read = refl; performed = refl; asking = refl; begun = begun })
 
 -- Nothing waits in a socket that was just made.
 pub fresh_waits : (mine : Options) → QueueWaits [] (empty_queue mine)
@@ -146,13 +147,21 @@ begun_kind e o begun =
 
 -- A socket that was just made has numbered nothing.
 pub fresh_at_zero : (mine : Options) → BeginsAtZero (empty_queue mine)
-fresh_at_zero mine = record { rest = λ u waiting is. absurd (cc); zero = λ id. refl; ssn = λ id. refl }
+fresh_at_zero mine = record { rest = λ u waiting is. absurd (cc); zero = λ id. refl; ssn = λ id. refl; unpaused = λ id. refl }
 
 renamed_zero : (id : ℕ) (streams : List Stream) → next_numbers false (stream_named id (map renumbered_stream streams)) ≡ (0, 0)
 renamed_zero id [] = refl
 renamed_zero id (stream ∷ streams) = go (stream.id == id) (renamed_zero id streams)
   where
     go : (b : Bool) → next_numbers false (stream_named id (map renumbered_stream streams)) ≡ (0, 0) → next_numbers false (if b then renumbered_stream stream else stream_named id (map renumbered_stream streams)) ≡ (0, 0)
+    go true rest = refl
+    go false rest = rest
+
+renamed_open : (id : ℕ) (streams : List Stream) → is_open_pause (stream_named id (map renumbered_stream streams)).pause ≡ true
+renamed_open id [] = refl
+renamed_open id (stream ∷ streams) = go (stream.id == id) (renamed_open id streams)
+  where
+    go : (b : Bool) → is_open_pause (stream_named id (map renumbered_stream streams)).pause ≡ true → is_open_pause (if b then renumbered_stream stream else stream_named id (map renumbered_stream streams)).pause ≡ true
     go true rest = refl
     go false rest = rest
 
@@ -172,6 +181,7 @@ restarted_at_zero enabled queue =
       rest = λ u waiting is front. absurd (let clash : None ≡ Some u = sym idle ∙ is in cc);
       zero = λ id. ap (λ (p : ℕ × ℕ). p.1 % 2 ^ 32) (renamed_zero id (put_back queue.under_way queue).streams);
       ssn = λ id. ap (λ (p : ℕ × ℕ). p.0) (renamed_zero id (put_back queue.under_way queue).streams);
+      unpaused = λ id. renamed_open id (put_back queue.under_way queue).streams;
     })
 
 -- With `follow_rfc` each association begins so (RFC 9260, section 6.5).

@@ -11,7 +11,7 @@ use Rattle.dcsctp_spec_lemmas.specs.types.declared.word.Word.TheVariants.{U32}
 use Rattle.dcsctp_spec_lemmas.specs.spec.Reconfiguration.{RequestState, early, due, renewed, ResetParameter, outgoing_reset_request, incoming_reset_request, reconfiguration_response, other_reset_parameter}
 use Rattle.dcsctp_spec_lemmas.specs.spec.Packet.{Introduction, Content, init, init_ack, cookie_echo, cookie_ack, re_config, abort, shutdown, shutdown_ack, shutdown_complete, plain, Emission}
 use Rattle.dcsctp_spec_lemmas.specs.spec.endpoint.Endpoint.{Endpoint, Core, OutstandingRequest, closed, cookie_wait, cookie_echoed, open_in, established, shutdown_pending, shutdown_sent, shutdown_received, shutdown_ack_sent, with_secret, secret_with}
-use Rattle.dcsctp_spec_lemmas.specs.spec.endpoint.Event.{Event}
+use Rattle.dcsctp_spec_lemmas.specs.spec.endpoint.Event.{Event, streams_reset_performed}
 use Rattle.dcsctp_spec_lemmas.specs.spec.endpoint.Outcome.{Outcome, quiet, sends, fits, emits, to_peer}
 use Rattle.dcsctp_spec_runs.specs.Past.{HasEffect}
 use Rattle.dcsctp_spec_lemmas.specs.spec.association.Controlled.{IsControlledChunk, IsControlledAct}
@@ -41,7 +41,8 @@ use Rattle.dcsctp_theorem_sockets.proofs.OneSocket.{noted_happened}
 use Rattle.dcsctp_delivery_turns.specs.Actions.{IsCall}
 use Rattle.dcsctp_delivery_turns.specs.Asking.{own_with, own_of, own_of_core}
 use Rattle.dcsctp_delivery_turns.specs.Completing.{EndsOwn, CompletesOwn}
-use Rattle.dcsctp_delivery_turns.proofs.Telling.{Told, own_told, sent_tell}
+use Rattle.dcsctp_delivery_sending.specs.Places.{HasEntry}
+use Rattle.dcsctp_delivery_turns.proofs.Telling.{own_told, sent_tell}
 use Rattle.dcsctp_delivery_turns.proofs.Performed.{outgoing_out, incoming_out}
 use Rattle.dcsctp_spec_lemmas.proofs.EarlyLemmas.{content_by}
 
@@ -210,7 +211,7 @@ module _ (my : Pair) (number : ℕ) where
         outstanding = ends.1;
         told = λ streams shown. told_are e.outstanding streams
             (own_told streams (their_streams (first_reset_request parameters)) (own_streams e.outstanding) w.effects
-            (sent_tell streams w.is_refused base (reset_events_of e parameters w.effects) w.held parameters w.answers turn.answers (subst (λ (x : Outcome). Told streams x.events) turn.is shown)));
+            (sent_tell (streams_reset_performed streams) refl w.is_refused base (reset_events_of e parameters w.effects) w.held parameters w.answers turn.answers (subst (λ (x : Outcome). HasEntry (streams_reset_performed streams) x.events) turn.is shown)));
       }
 
   reset_ends : (e : Endpoint) (core : Core) (parameters : List ResetParameter) (o : Outcome) → e.core ≡ core → ResetTurn e core parameters o → Completed o.effects → EndsOwn e o my number

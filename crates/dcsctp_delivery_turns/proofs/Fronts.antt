@@ -10,7 +10,7 @@ use Rattle.dcsctp_spec_lemmas.specs.spec.endpoint.BegunResets.{BegunReset}
 use Rattle.dcsctp_spec_lemmas.specs.spec.queues.Reassembly.{ReassemblyState, EndsDeferral}
 use Rattle.dcsctp_spec_lemmas.specs.spec.queues.Transfer.{Transfer}
 use Rattle.dcsctp_spec_lemmas.specs.spec.endpoint.ResetOutcomes.{first_reset_request, has_completed, has_reset}
-use Rattle.dcsctp_delivery_directions.specs.Directions.{Asking, HasAsked, asking_renewed, all_ended, is_reset_reached, Direction}
+use Rattle.dcsctp_delivery_directions.specs.Directions.{PerformedReset, reset_performed, Asking, HasAsked, asking_renewed, all_ended, is_reset_reached, Direction}
 use Rattle.dcsctp_delivery_turns.specs.Asking.{Own, renewed_own, AreNumbered, IsOut, OutIs, IsAsking, AsksFit, SomeFit}
 use Rattle.dcsctp_delivery_turns.specs.Actions.{has_refused, Inside, ended_own, OwnEnds, unended, committed, rolled_back, PeerResets, unreset, absent, deferred, reset_now}
 use Rattle.dcsctp_delivery_turns.specs.Runs.{IsBetween, as_it_was, once_performed, once_refused, KnowsRequest, performed_if_reset}
@@ -166,31 +166,42 @@ front_none came happened old between _ own (reset_now some parameters reset is w
     (let gone = own_ends_received happened old between own ∙ nowhere in absurd (cc))
 
 -- the direction, once a request was performed in this turn or not
-abbrev pub resetting : Bool → Direction → Transfer → Bool → Direction
-resetting is_known direction transfer is_reset = record (receiving direction transfer direction.read) { asking = performed_if_reset is_known is_reset direction.asking }
+abbrev pub resetting : Bool → Direction → Transfer → Bool → List PerformedReset → Direction
+resetting is_known direction transfer is_reset performed =
+    record (receiving direction transfer direction.read) { performed = performed; asking = performed_if_reset is_known is_reset direction.asking }
 
-pub record ReceivingFront (is_known : Bool) (direction : Direction) (transfer : Transfer) (happened : List Effect) (new : Inside) : Type 0 where
+-- What was performed: nothing new, or the request that is handled.
+pub data RecordsFront (came : Option Content) (happened : List Effect) (direction : Direction) (left : Transfer) : List PerformedReset → Type 0 where
+  front_none_new : has_reset happened ≡ false → RecordsFront came happened direction left direction.performed
+  front_one_new : (parameters : List ResetParameter) (reset : RequestedReset) → came ≡ Some (re_config parameters) → first_reset_request parameters ≡ Some reset
+      → RecordsFront came happened direction left (reset_performed reset.streams direction.read left.reassembly ∷ direction.performed)
+
+pub record ReceivingFront (is_known : Bool) (came : Option Content) (direction : Direction) (transfer : Transfer) (happened : List Effect) (new : Inside) : Type 0 where
   pub left : Transfer
   pub is : new.queues.transfer ≡ Some left
   pub is_reset : Bool
   pub none : is_reset ≡ false → has_reset happened ≡ false
   pub some : is_reset ≡ true → has_reset happened ≡ true
-  pub steps : DirectionSteps (receiving direction transfer direction.read) (resetting is_known direction left is_reset)
+  pub performed : List PerformedReset
+  pub records : RecordsFront came happened direction left performed
+  pub steps : DirectionSteps (receiving direction transfer direction.read) (resetting is_known direction left is_reset performed)
 
 pub unperformed : (is_known : Bool) (asking : Asking) → performed_if_reset is_known false asking ≡ asking
 unperformed true asking = refl
 unperformed false asking = refl
 
 -- where no request is performed
-front_by : (is_known : Bool) (direction : Direction) (transfer left : Transfer) (happened : List Effect) (new : Inside) → new.queues.transfer ≡ Some left → has_reset happened ≡ false
-    → DirectionSteps (receiving direction transfer direction.read) (receiving direction left direction.read) → ReceivingFront is_known direction transfer happened new
-front_by is_known direction transfer left happened new is none steps =
+front_by : (is_known : Bool) (came : Option Content) (direction : Direction) (transfer left : Transfer) (happened : List Effect) (new : Inside) → new.queues.transfer ≡ Some left → has_reset happened ≡ false
+    → DirectionSteps (receiving direction transfer direction.read) (receiving direction left direction.read) → ReceivingFront is_known came direction transfer happened new
+front_by is_known came direction transfer left happened new is none steps =
     record {
       left = left;
       is = is;
       is_reset = false;
       none = λ no. none;
       some = λ is. absurd (cc);
+      performed = direction.performed;
+      records = front_none_new none;
       steps = subst (λ (a : Asking). DirectionSteps (receiving direction transfer direction.read) (record (receiving direction left direction.read) { asking = a }))
           (sym (unperformed is_known direction.asking)) steps;
     }
@@ -203,30 +214,36 @@ AsksSome direction came = (parameters : List ResetParameter) (reset : RequestedR
 performs_by : (is_known : Bool) (came : Option Content) (happened : List Effect) (direction : Direction) (transfer : Transfer) (parameters : List ResetParameter) (reset : RequestedReset) (reassembly : ReassemblyState) → KnowsRequest is_known direction transfer came happened
     → has_reset happened ≡ true → came ≡ Some (re_config parameters) → first_reset_request parameters ≡ Some reset → HasAsked direction.asking.requests reset.streams → is_reset_reached reset transfer.tracker ≡ true → EndsDeferral reset.streams transfer.reassembly reassembly
     → DirectionSteps (receiving direction transfer direction.read)
-    (record (receiving direction (record transfer { reassembly = reassembly }) direction.read) { asking = performed_if_reset is_known true direction.asking })
+    (resetting is_known direction (record transfer { reassembly = reassembly }) true (reset_performed reset.streams direction.read reassembly ∷ direction.performed))
 performs_by true came happened direction transfer parameters reset reassembly newest done came_is wants some reached leaves =
     let found = newest done parameters reset came_is wants in
-    one_step (receiving direction transfer direction.read) _
+    let same : found.newest.reset.streams ≡ reset.streams = ap (λ (r : RequestedReset). r.streams) found.asks in
+    subst (λ (streams : List ℕ). DirectionSteps (receiving direction transfer direction.read)
+    (resetting true direction (record transfer { reassembly = reassembly }) true (reset_performed streams direction.read reassembly ∷ direction.performed))) same
+    (one_step (receiving direction transfer direction.read) _
     (directions.performs found.newest found.earlier reassembly found.is (λ interleaved. found.unknown) (subst (λ (r : RequestedReset). is_reset_reached r transfer.tracker ≡ true) (sym found.asks) reached)
     (own_same reset found.newest.reset transfer.reassembly.deferral (sym found.asks) found.own)
-    (subst (λ (r : RequestedReset). EndsDeferral r.streams transfer.reassembly reassembly) (sym found.asks) leaves))
+    (subst (λ (r : RequestedReset). EndsDeferral r.streams transfer.reassembly reassembly) (sym found.asks) leaves)))
 performs_by false came happened direction transfer parameters reset reassembly (inl unmixed) done came_is wants some reached leaves =
     one_step (receiving direction transfer direction.read) _ (directions.resets reset.streams reassembly unmixed some leaves)
 performs_by false came happened direction transfer parameters reset reassembly (inr newest) done came_is wants some reached leaves =
     let found = newest done parameters reset came_is wants in
-    one_step (receiving direction transfer direction.read) _
+    let same : found.newest.reset.streams ≡ reset.streams = ap (λ (r : RequestedReset). r.streams) found.asks in
+    subst (λ (streams : List ℕ). DirectionSteps (receiving direction transfer direction.read)
+    (resetting false direction (record transfer { reassembly = reassembly }) true (reset_performed streams direction.read reassembly ∷ direction.performed))) same
+    (one_step (receiving direction transfer direction.read) _
     (directions.performs_earlier found.newest found.earlier reassembly found.is (λ interleaved. found.unknown) (subst (λ (r : RequestedReset). is_reset_reached r transfer.tracker ≡ true) (sym found.asks) reached)
     (own_same reset found.newest.reset transfer.reassembly.deferral (sym found.asks) found.own)
-    (subst (λ (r : RequestedReset). EndsDeferral r.streams transfer.reassembly reassembly) (sym found.asks) leaves))
+    (subst (λ (r : RequestedReset). EndsDeferral r.streams transfer.reassembly reassembly) (sym found.asks) leaves)))
 
 peer_resets_receive : (is_known : Bool) (came : Option Content) (happened : List Effect) (direction : Direction) (transfer : Transfer) (old new : Inside) → KnowsRequest is_known direction transfer came happened
-    → AsksSome direction came → old.queues.transfer ≡ Some transfer → PeerResets came happened old new → ReceivingFront is_known direction transfer happened new
-peer_resets_receive is_known came happened direction transfer old _ newest asked is (unreset none) = front_by is_known direction transfer transfer happened old is none stays
+    → AsksSome direction came → old.queues.transfer ≡ Some transfer → PeerResets came happened old new → ReceivingFront is_known came direction transfer happened new
+peer_resets_receive is_known came happened direction transfer old _ newest asked is (unreset none) = front_by is_known came direction transfer transfer happened old is none stays
 peer_resets_receive is_known came happened direction transfer old _ newest asked is (absent gone) = absurd (cc)
 peer_resets_receive is_known came happened direction transfer old new newest asked is (deferred none parameters reset came_is wants found known) =
     let same : found ≡ transfer = cc in
-    subst (λ (t : Transfer). ReceivingFront is_known direction t happened new) same
-    (front_by is_known direction found _ happened new refl none (one_step (receiving direction found direction.read) _ (directions.defers reset.last_tsn reset.streams (asked parameters reset came_is wants))))
+    subst (λ (t : Transfer). ReceivingFront is_known came direction t happened new) same
+    (front_by is_known came direction found _ happened new refl none (one_step (receiving direction found direction.read) _ (directions.defers reset.last_tsn reset.streams (asked parameters reset came_is wants))))
 peer_resets_receive is_known came happened direction transfer old new newest asked is (reset_now some parameters reset came_is wants found reassembly known reached leaves) =
     let same : transfer ≡ found = cc in
     record {
@@ -235,11 +252,14 @@ peer_resets_receive is_known came happened direction transfer old new newest ask
       is_reset = true;
       none = λ no. absurd (cc);
       some = λ is. some;
-      steps = subst (λ (t : Transfer). DirectionSteps (receiving direction t direction.read) (resetting is_known direction (record found { reassembly = reassembly }) true)) (sym same)
+      performed = reset_performed reset.streams direction.read reassembly ∷ direction.performed;
+      records = front_one_new parameters reset came_is wants;
+      steps = subst (λ (t : Transfer). DirectionSteps (receiving direction t direction.read)
+          (resetting is_known direction (record found { reassembly = reassembly }) true (reset_performed reset.streams direction.read reassembly ∷ direction.performed))) (sym same)
           (performs_by is_known came happened direction found parameters reset reassembly (subst (λ (t : Transfer). KnowsRequest is_known direction t came happened) same newest) some came_is wants (asked parameters reset came_is wants) reached leaves);
     }
 
 pub front_receives : (is_known : Bool) (came : Option Content) (happened : List Effect) (direction : Direction) (transfer : Transfer) (old between new : Inside) → KnowsRequest is_known direction transfer came happened
-    → AsksSome direction came → old.queues.transfer ≡ Some transfer → OwnEnds happened old between → PeerResets came happened between new → ReceivingFront is_known direction transfer happened new
+    → AsksSome direction came → old.queues.transfer ≡ Some transfer → OwnEnds happened old between → PeerResets came happened between new → ReceivingFront is_known came direction transfer happened new
 front_receives is_known came happened direction transfer old between new newest asked is own peer =
     peer_resets_receive is_known came happened direction transfer between new newest asked (own_ends_received happened old between own ∙ is) peer

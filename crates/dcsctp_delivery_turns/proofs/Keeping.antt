@@ -198,7 +198,7 @@ module _ (e : Endpoint) (input : Input) (o : Outcome) (small : OpensSmall e inpu
 
   leaves_so : {resets : Option (List ℕ)} {to : ℕ} {adds : List Message → List Message} {taken : List MessageContent → List MessageContent} → Becomes resets (content_of_input input) to adds taken e o → Leaves e o
   leaves_so (goes_on calm linked makes) = stays linked (makes_fit (inside e) (inside o.after) fits makes) (λ first kinds none h. makes_left _ _ _ _ _ first kinds (inside e) (inside o.after) none fits h makes)
-  leaves_so (pauses ids resets calm linked small' makes) =
+  leaves_so (pauses ids resets calm accepted linked small' makes) =
       stays linked (makes_fit (prepared_inside ids (inside e)) (inside o.after) fits makes) (λ first kinds none h. makes_left _ _ _ _ _ first kinds (prepared_inside ids (inside e)) (inside o.after) none fits h makes)
   leaves_so (works_resets linked between worked ended peer makes) =
       let fit : SomeFit worked.own = peer_fit (content_of_input input) o.effects between worked peer (ends_fit o.effects (inside e) between ended fits) in

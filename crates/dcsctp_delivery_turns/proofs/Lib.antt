@@ -30,6 +30,8 @@ pub mod Connecting
 pub mod Keeping
 pub mod Runs
 pub mod Telling
+pub mod Counted
+pub mod ToldRequests
 pub mod Completing
 pub mod Holding
 pub mod Waiting

@@ -30,17 +30,17 @@ use Rattle.dcsctp_delivery_turns.proofs.Data.{to_link, turn_link, flush_makes, t
 module _ (came : Option Content) (calm : IsCalm came) (to : ℕ) where
   -- ---- our streams that the user resets
 
-  resets_where_goes : (refusal : Option ResetRefusal) (e : Endpoint) (ids : List ℕ) (o : Outcome) → AllByRecursion (λ id. id < 2 ^ 16) ids → IsPeerTag e.core to → PreparesUnlessRefused refusal e ids o
+  resets_where_goes : (refusal : Option ResetRefusal) (e : Endpoint) (ids : List ℕ) (o : Outcome) → reset_refusal e ≡ refusal → AllByRecursion (λ id. id < 2 ^ 16) ids → IsPeerTag e.core to → PreparesUnlessRefused refusal e ids o
       → Becomes (Some ids) came to (λ queued. queued) (λ read. read) e o
-  resets_where_goes None e ids o small at turn =
+  resets_where_goes None e ids o is small at turn =
       let base : Endpoint = endpoint_with_queue e (prepared_all ids e.queues.queue) in
       subst (Becomes (Some ids) came to (λ queued. queued) (λ read. read) e) (sym turn.is)
-      (pauses ids refl calm (turn_link base turn.flushed turn.flushes) small
+      (pauses ids refl calm is (turn_link base turn.flushed turn.flushes) small
       (makes_behind came to (inside base) [] (prepare_all_events ids e.queues.queue) turn.flushed (prepared_none ids e.queues.queue) (flush_makes came calm to base turn.flushed at turn.flushes)))
-  resets_where_goes (Some refusal) e ids o small at turn = subst (Becomes (Some ids) came to (λ queued. queued) (λ read. read) e) (sym turn) (goes_on calm refl (rests came to (inside e)))
+  resets_where_goes (Some refusal) e ids o is small at turn = subst (Becomes (Some ids) came to (λ queued. queued) (λ read. read) e) (sym turn) (goes_on calm refl (rests came to (inside e)))
 
   pub own_resets_go : (e : Endpoint) (ids : List ℕ) (o : Outcome) → AllByRecursion (λ id. id < 2 ^ 16) ids → IsPeerTag e.core to → OwnResetsTurn e ids o → Becomes (Some ids) came to (λ queued. queued) (λ read. read) e o
-  own_resets_go e ids o small at turn = resets_where_goes (reset_refusal e) e ids o small at turn
+  own_resets_go e ids o small at turn = resets_where_goes (reset_refusal e) e ids o refl small at turn
 
   -- ---- what the user takes and sends
 

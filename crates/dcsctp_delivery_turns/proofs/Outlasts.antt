@@ -22,7 +22,7 @@ use Rattle.dcsctp_delivery_turns.specs.Actions.{ledger_of, inside, LeadsToLedger
 use Rattle.dcsctp_delivery_turns.specs.Asking.{SomeFit, own_of, AsksFit}
 use Rattle.dcsctp_delivery_turns.specs.PeerRequests.{SameWaits}
 use Rattle.dcsctp_delivery_turns.specs.Runs.{direction_with_sender, new_direction, OpensSmall, OpensAssociation, Outlasts, taken_turn}
-use Rattle.dcsctp_delivery_turns.specs.Sides.{receiving, ReceivingSteps}
+use Rattle.dcsctp_delivery_turns.specs.Sides.{received_so_far, receiving, ReceivingSteps}
 use Rattle.dcsctp_delivery_turns.proofs.Addressed.{data_goes_to_peer}
 use Rattle.dcsctp_delivery_turns.proofs.Beginnings.{nothing_fits}
 use Rattle.dcsctp_delivery_turns.proofs.Fronts.{sending_by}
@@ -55,7 +55,7 @@ module _ (options : Options) (first size : ℕ) (direction : Direction) (e : End
       let made = makes direction.queued direction.sent [] first nothing_asked fits_kept in
       let alone = makes direction.queued [] [] first nothing_asked fits_kept in
       let sends = actions_send (content_of_input input) to (ledger_of direction.queued (kept_inside collision again).queues direction.sent [] nothing_asked)
-      (ledger_of direction.queued o.after.queues (direction.sent ++ packets_of_events o.events) [] made.asking) direction.acknowledged direction.first_tsn direction.tracker direction.reassembly direction.read direction.beginning
+      (ledger_of direction.queued o.after.queues (direction.sent ++ packets_of_events o.events) [] made.asking) direction.acknowledged direction.first_tsn (received_so_far direction) direction.beginning
       (λ transfer there. opening_reports (HasReached direction.first_tsn direction.tracker) (content_of_input input) collision.opened.opening) made.actions in
       record {
         acknowledged = sends.later;
@@ -83,7 +83,7 @@ pub record OpensKept (e : Endpoint) (input : Input) (o : Outcome) (collision : C
 module _ (e : Endpoint) (input : Input) (o : Outcome) (collision : Collides (content_of_input input) e o) (small : collision.opened.link.my.first_tsn < 2 ^ 32) (again : RequestedReset)
     (makes : MakesPackets (content_of_input input) collision.opened.link.peer.tag (kept_inside collision again) (packets_of_events o.events) (inside o.after)) where
   abbrev nothing_sent : Direction
-  nothing_sent = new_direction e.options 0 0 [] (record { queue = empty_queue e.options; transfer = None }) 0 [] (record { from_zero = false; keeps = λ id. false })
+  nothing_sent = new_direction e.options 0 0 [] (record { queue = empty_queue e.options; transfer = None }) 0 [] (record { from_zero = false; keeps = λ id. false; asks = λ id count. false })
 
   made : (read : List MessageContent) → LeadsToLedger (content_of_input input) collision.opened.link.peer.tag (ledger_of [] (kept_inside collision again).queues [] read nothing_asked) collision.opened.link.my.first_tsn (inside o.after) (exchange_of [] ([] ++ packets_of_events o.events) read)
   made read = makes [] [] read collision.opened.link.my.first_tsn nothing_asked (nothing_fits collision.opened.link.my.first_tsn again small)

@@ -189,7 +189,7 @@ module _ (e : Endpoint) (input : Input) (o : Outcome) (fits : SomeFit (own_of e)
   report_so : {to : Option (List ℕ)} {adds : List Message → List Message} {taken : List MessageContent → List MessageContent} → Becomes to (content_of_input input) (peer_tag e.core) adds taken e o → TurnReports e input o
   report_so (goes_on calm linked makes) =
       on_from linked (inside e) fits e.queues.transfer refl (λ transfer is. record { left = transfer; is = is; same = refl }) (λ none. none) makes
-  report_so (pauses ids resets calm linked small' makes) =
+  report_so (pauses ids resets calm accepted linked small' makes) =
       on_from linked (prepared_inside ids (inside e)) fits e.queues.transfer refl (λ transfer is. record { left = transfer; is = is; same = refl }) (λ none. none) makes
   report_so (works_resets linked between worked own peer makes) =
       on_from linked worked (worked_fits (content_of_input input) o (inside e) between worked own peer fits) e.queues.transfer refl

@@ -9,13 +9,13 @@ use Rattle.dcsctp_delivery_turns.proofs.SenderRuns.{sender_becomes}
 use Rattle.dcsctp_delivery_turns.proofs.ReceiverRuns.{idle_becomes, receiver_becomes}
 
 pub senders_begin : SendersBegin
-senders_begin mine options first size keeps =
-    anew_runs options first size [] (record { queue = empty_queue mine; transfer = None }) (record { from_zero = true; keeps = keeps }) tt (fresh_waits mine) tt
+senders_begin mine options first size keeps asks =
+    anew_runs options first size [] (record { queue = empty_queue mine; transfer = None }) (record { from_zero = true; keeps = keeps; asks = asks }) tt (fresh_waits mine) tt
     (record { zero = λ is. fresh_at_zero mine; all = λ id is. record { waits = λ place message at. absurd (cc); unpaused = tt } })
 
 pub begins_anew : SendersBeginAgain
-begins_anew options first size queued below fit queues none =
-    anew_runs options first size queued below (record { from_zero = false; keeps = λ id. false }) fit queues (subst (directions.NoneInFlight first below.queue.is_interleaved) (sym none) tt) (record { zero = λ is. absurd (cc); all = λ id is. absurd (cc) })
+begins_anew options first size asks queued below fit queues none =
+    anew_runs options first size queued below (record { from_zero = false; keeps = λ id. false; asks = asks }) fit queues (subst (directions.NoneInFlight first below.queue.is_interleaved) (sym none) tt) (record { zero = λ is. absurd (cc); all = λ id is. absurd (cc) })
 
 pub senders_go_on : SendersGoOn
 senders_go_on options first size direction e input o run small same fits performed refuses drops opens told few may turn =

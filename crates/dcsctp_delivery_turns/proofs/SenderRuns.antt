@@ -29,11 +29,12 @@ use Rattle.dcsctp_delivery_turns.proofs.Fronts.{is_asking, own_renews, sending_b
 use Rattle.dcsctp_delivery_directions.proofs.Directions.{direction_queues}
 use Rattle.dcsctp_delivery_turns.proofs.Addressed.{data_goes_to_peer}
 use Rattle.dcsctp_delivery_turns.proofs.Outlasts.{outlasts_goes}
+use Rattle.dcsctp_delivery_turns.specs.Sides.{received_so_far}
 use Rattle.dcsctp_delivery_turns.proofs.Begun.{grows_not}
 use Rattle.dcsctp_delivery_turns.proofs.Beginnings.{input_more, nothing_fits, begun_queues, begun_kind}
 
 module _ (options : Options) (first size : ℕ) (direction : Direction) (e : Endpoint) (input : Input) (o : Outcome) (run : DirectionRun options first size direction) (small : first < 2 ^ 32) (same : direction.queues ≡ e.queues)
-    (fits : AsksFit first (own_of e) direction.asking) (performed : EndsPerformed e o direction.asking) (refuses : RefusesNone e o) (drops : MayDrop input direction.beginning) (opens : OpensSmall e input o) (told : IsTrueAcknowledgement direction e input) (few : length (queued_after e input direction.queued) < 2 ^ 64) where
+    (fits : AsksFit first (own_of e) direction.asking) (performed : EndsPerformed e o direction.asking) (refuses : RefusesNone e o) (drops : MayDrop e input (length direction.queued) direction.beginning) (opens : OpensSmall e input o) (told : IsTrueAcknowledgement direction e input) (few : length (queued_after e input direction.queued) < 2 ^ 64) where
   both : QueueWaits direction.queued direction.queues.queue × AllByRecursion Fits direction.queued
   both = direction_queues options first size direction run small (let more = input_more e input direction.queued in omega (arith, few, more))
 
@@ -55,7 +56,7 @@ module _ (options : Options) (first size : ℕ) (direction : Direction) (e : End
       → (acknowledged : ℕ) × DirectionRun options first size (after_turn last.queues acknowledged made.asking)
   moved old asking nowhere start last made =
       let sends = actions_send (content_of_input input) (peer_tag e.core) (ledger_of direction.queued old.queues direction.sent [] asking)
-      (ledger_of (queued_after e input direction.queued) last.queues (direction.sent ++ packets_of_events o.events) (read_after e input []) made.asking) direction.acknowledged direction.first_tsn direction.tracker direction.reassembly direction.read direction.beginning
+      (ledger_of (queued_after e input direction.queued) last.queues (direction.sent ++ packets_of_events o.events) (read_after e input []) made.asking) direction.acknowledged direction.first_tsn (received_so_far direction) direction.beginning
       (told_here old nowhere) made.actions in
       (sends.later, steps_go_on options first size (sending_by direction old asking) (after_turn last.queues sends.later made.asking) start sends.steps)
 
@@ -78,10 +79,10 @@ module _ (options : Options) (first size : ℕ) (direction : Direction) (e : End
 
   pub sender_becomes : Becomes (streams_user_resets input) (content_of_input input) (peer_tag e.core) (queued_after e input) (read_after e input) e o → SenderTurns options first size direction e input o
   sender_becomes (goes_on calm linked makes) = goes_further linked (inside e) direction.asking (λ none. none) as_it_was refl fits starts makes
-  sender_becomes (pauses ids resets calm linked small' makes) =
+  sender_becomes (pauses ids resets calm accepted linked small' makes) =
       goes_further linked (prepared_inside ids (inside e)) direction.asking (λ none. none) as_it_was (preparing_kind ids e.queues.queue) fits
       (steps_go_on options first size (sending_by direction (inside e) direction.asking) (sending_by direction (prepared_inside ids (inside e)) direction.asking) starts
-      (one_step (sending_by direction (inside e) direction.asking) _ (directions.prepares ids small' (drops ids resets)))) makes
+      (one_step (sending_by direction (inside e) direction.asking) _ (directions.prepares ids small' (drops accepted ids resets)))) makes
   sender_becomes (works_resets linked between worked own peer makes) =
       let front = front_sends (content_of_input input) first direction o.effects (inside e) between worked own peer fits performed refuses in
       goes_further linked worked front.asking (λ none. front_none (content_of_input input) o.effects (inside e) between worked own peer none) front.between front.kind front.fits
@@ -135,7 +136,7 @@ module _ (options : Options) (first size : ℕ) (direction : Direction) (e : End
           subst (λ (a : Asking). DirectionRun other begun.my.first_tsn room (direction_with_sender there queued (opening_queues e o begun) 0 [] a)) awaited.asking unsent in
           let made = makes queued [] [] begun.my.first_tsn nothing_asked (nothing_fits begun.my.first_tsn again (opens begun opening linked)) in
           let sends = actions_send (content_of_input input) begun.held.peer.tag (ledger_of queued (opening_queues e o begun) [] [] nothing_asked) (ledger_of queued o.after.queues (packets_of_events o.events) [] made.asking) 0
-          awaiting.first_tsn awaiting.tracker awaiting.reassembly awaiting.read beginning
+          awaiting.first_tsn (received_so_far awaiting) beginning
           (λ transfer known. opening_reports (HasReached awaiting.first_tsn awaiting.tracker) (content_of_input input) opening) made.actions in (
             sends.later,
             made.asking,

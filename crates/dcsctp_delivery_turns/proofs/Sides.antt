@@ -7,14 +7,13 @@ use Rattle.dcsctp_spec_lemmas.specs.spec.Packet.{Content, init, init_ack, cookie
 use Rattle.dcsctp_spec_lemmas.specs.types.queues.Messages.{MessageContent}
 use Rattle.dcsctp_spec_lemmas.specs.spec.queues.Outstanding.{acknowledged_count}
 use Rattle.dcsctp_spec_lemmas.specs.spec.queues.Reassembly.{ReassemblyState}
-use Rattle.dcsctp_spec_lemmas.specs.spec.queues.Tracker.{TrackerState}
 use Rattle.dcsctp_spec_lemmas.specs.spec.queues.Transfer.{Transfer, EndpointQueues}
 use Rattle.dcsctp_spec_lemmas.specs.spec.endpoint.FlushOutcomes.{first_ask, packets_allowed}
 use Rattle.dcsctp_spec_lemmas.specs.spec.endpoint.TransferMoves.{timed_transfer, lost_all}
 use Rattle.dcsctp_spec_lemmas.specs.spec.queues.Retransmission.{RetransmissionState}
 use Rattle.dcsctp_delivery_directions.proofs.Standing.{timed_outstanding, timed_begun}
 use Rattle.dcsctp_delivery_turns.specs.Actions.{Ledger, MayAcknowledge, Action, queues, sets, flushes, resends, resends_nothing, speaks, asks_again, acknowledges, loses, receives, receives_interleaved, forwards, forwards_interleaved, tracks, times, takes, Actions, nothing, further}
-use Rattle.dcsctp_delivery_turns.specs.Sides.{DirectionSteps, stays, moves, sending, SendingSteps, WasInSentPacket, WasSent, receiving, ReceivingSteps, received_so_far}
+use Rattle.dcsctp_delivery_turns.specs.Sides.{DirectionSteps, stays, moves, sending, SendingSteps, WasInSentPacket, WasSent, receiving, ReceivingSteps, ReceivedSoFar}
 use Rattle.dcsctp_delivery_directions.specs.Directions.{Direction, Beginning, HasReached, DirectionStep, DirectionRun, SameFlight, goes_on}
 use Rattle.dcsctp_spec_lemmas.specs.spec.queues.Arrivals.{data_arrival, i_data_arrival, named_skips, skipped_messages}
 use Rattle.dcsctp_delivery_turns.specs.PeerRequests.{SameWaits}
@@ -75,11 +74,11 @@ reported (Some (shutdown c)) tsn so may says = subst so may says
 reported (Some shutdown_ack) tsn so may says = absurd may
 reported (Some (shutdown_complete t)) tsn so may says = absurd may
 
-module _ (came : Option Content) (to first_tsn : ℕ) (tracker : TrackerState) (reassembly : ReassemblyState) (read : List MessageContent) (beginning : Beginning) where
-  by : (old new : Ledger) (acknowledged later : ℕ) → DirectionStep (sending old acknowledged first_tsn tracker reassembly read beginning) (sending new later first_tsn tracker reassembly read beginning) → SendingSteps old new acknowledged first_tsn (received_so_far tracker reassembly read) beginning
-  by old new acknowledged later step = record { later = later; steps = one_step (sending old acknowledged first_tsn tracker reassembly read beginning) (sending new later first_tsn tracker reassembly read beginning) step }
+module _ (came : Option Content) (to first_tsn : ℕ) (received : ReceivedSoFar) (beginning : Beginning) where
+  by : (old new : Ledger) (acknowledged later : ℕ) → DirectionStep (sending old acknowledged first_tsn received beginning) (sending new later first_tsn received beginning) → SendingSteps old new acknowledged first_tsn received beginning
+  by old new acknowledged later step = record { later = later; steps = one_step (sending old acknowledged first_tsn received beginning) (sending new later first_tsn received beginning) step }
 
-  action_sends : (old new : Ledger) (acknowledged : ℕ) → ((transfer : Transfer) → old.queues.transfer ≡ Some transfer → ComesReported (HasReached first_tsn tracker) came) → Action came to old new → SendingSteps old new acknowledged first_tsn (received_so_far tracker reassembly read) beginning
+  action_sends : (old new : Ledger) (acknowledged : ℕ) → ((transfer : Transfer) → old.queues.transfer ≡ Some transfer → ComesReported (HasReached first_tsn received.tracker) came) → Action came to old new → SendingSteps old new acknowledged first_tsn received beginning
   action_sends old _ acknowledged told (queues now message fits some) = by old _ acknowledged acknowledged (directions.queues now message fits some)
   action_sends old _ acknowledged told (sets setting small) = by old _ acknowledged acknowledged (directions.sets setting small)
   action_sends old _ acknowledged told (flushes e draft answers same at tag no_data no_end stale says allowed) = by old _ acknowledged acknowledged (directions.flushes e draft answers same no_data allowed)
@@ -89,7 +88,7 @@ module _ (came : Option Content) (to first_tsn : ℕ) (tracker : TrackerState) (
   action_sends old _ acknowledged told (speaks emission no_data stale says) = by old _ acknowledged acknowledged (directions.speaks emission no_data)
   action_sends old _ acknowledged told (asks_again emission begun tag was contents) = by old _ acknowledged acknowledged (directions.asks_again emission begun was contents)
   action_sends old _ acknowledged told (acknowledges now sack transfer new may known valid does) =
-      by old _ acknowledged (acknowledged + acknowledged_count transfer.retransmission.outstanding sack.cumulative_tsn_ack) (directions.acknowledges now sack transfer new known valid (reported came sack.cumulative_tsn_ack (HasReached first_tsn tracker) may (told transfer known)) does)
+      by old _ acknowledged (acknowledged + acknowledged_count transfer.retransmission.outstanding sack.cumulative_tsn_ack) (directions.acknowledges now sack transfer new known valid (reported came sack.cumulative_tsn_ack (HasReached first_tsn received.tracker) may (told transfer known)) does)
   action_sends old _ acknowledged told (loses now transfer known) = by old _ acknowledged acknowledged (directions.loses now transfer known)
   action_sends old _ acknowledged told (receives chunk transfer new is some known does) = by old _ acknowledged acknowledged (directions.turns_aside transfer new known (flight_same transfer new (data_where _ _ transfer new does)))
   action_sends old _ acknowledged told (receives_interleaved chunk transfer new is some known does) = by old _ acknowledged acknowledged (directions.turns_aside transfer new known (flight_same transfer new (data_where _ _ transfer new does)))
@@ -102,27 +101,27 @@ module _ (came : Option Content) (to first_tsn : ℕ) (tracker : TrackerState) (
   action_sends old _ acknowledged told (takes transfer message messages known ready) = by old _ acknowledged acknowledged (directions.turns_aside transfer _ known (record { outstanding = refl; reset_begun = refl }))
 
   -- Where there is no association none begins by actions.
-  told_on : (old between : Ledger) → ((transfer : Transfer) → old.queues.transfer ≡ Some transfer → ComesReported (HasReached first_tsn tracker) came) → Actions came to old between
-      → (transfer : Transfer) → between.queues.transfer ≡ Some transfer → ComesReported (HasReached first_tsn tracker) came
+  told_on : (old between : Ledger) → ((transfer : Transfer) → old.queues.transfer ≡ Some transfer → ComesReported (HasReached first_tsn received.tracker) came) → Actions came to old between
+      → (transfer : Transfer) → between.queues.transfer ≡ Some transfer → ComesReported (HasReached first_tsn received.tracker) came
   told_on old between told first transfer there = go old.queues.transfer refl
     where
-      go : (found : Option Transfer) → old.queues.transfer ≡ found → ComesReported (HasReached first_tsn tracker) came
+      go : (found : Option Transfer) → old.queues.transfer ≡ found → ComesReported (HasReached first_tsn received.tracker) came
       go None none = (let gone = actions_none came to old between first none in let clash : ◌≡◌ {A = Option Transfer} None (Some transfer) = sym gone ∙ there in absurd (cc))
       go (Some other) known = told other known
 
-  all_send : (old new : Ledger) (acknowledged : ℕ) → ((transfer : Transfer) → old.queues.transfer ≡ Some transfer → ComesReported (HasReached first_tsn tracker) came) → Actions came to old new → SendingSteps old new acknowledged first_tsn (received_so_far tracker reassembly read) beginning
+  all_send : (old new : Ledger) (acknowledged : ℕ) → ((transfer : Transfer) → old.queues.transfer ≡ Some transfer → ComesReported (HasReached first_tsn received.tracker) came) → Actions came to old new → SendingSteps old new acknowledged first_tsn received beginning
   all_send old _ acknowledged told nothing = record { later = acknowledged; steps = stays }
   all_send old _ acknowledged told (further between new first last) =
       let before = all_send old between acknowledged told first in
       let after = action_sends between new before.later (told_on old between told first) last in
       record {
         later = after.later;
-        steps = all_steps (sending old acknowledged first_tsn tracker reassembly read beginning) (sending between before.later first_tsn tracker reassembly read beginning) (sending new after.later first_tsn tracker reassembly read beginning) before.steps after.steps;
+        steps = all_steps (sending old acknowledged first_tsn received beginning) (sending between before.later first_tsn received beginning) (sending new after.later first_tsn received beginning) before.steps after.steps;
       }
 
-pub actions_send : (came : Option Content) (to : ℕ) (old new : Ledger) (acknowledged first_tsn : ℕ) (tracker : TrackerState) (reassembly : ReassemblyState) (read : List MessageContent) (beginning : Beginning)
-    → ((transfer : Transfer) → old.queues.transfer ≡ Some transfer → ComesReported (HasReached first_tsn tracker) came) → Actions came to old new → SendingSteps old new acknowledged first_tsn (received_so_far tracker reassembly read) beginning
-actions_send came to old new acknowledged first_tsn tracker reassembly read beginning told actions = all_send came to first_tsn tracker reassembly read beginning old new acknowledged told actions
+pub actions_send : (came : Option Content) (to : ℕ) (old new : Ledger) (acknowledged first_tsn : ℕ) (received : ReceivedSoFar) (beginning : Beginning)
+    → ((transfer : Transfer) → old.queues.transfer ≡ Some transfer → ComesReported (HasReached first_tsn received.tracker) came) → Actions came to old new → SendingSteps old new acknowledged first_tsn received beginning
+actions_send came to old new acknowledged first_tsn received beginning told actions = all_send came to first_tsn received beginning old new acknowledged told actions
 
 -- ---- the direction on which it receives
 

@@ -1,6 +1,6 @@
 -- Which resets of streams the user is told of, where a RE-CONFIG is handled.
 use Rattle.dcsctp_spec_lemmas.specs.spec.association.Effect as effects
-use Rattle.std.proofs.Common.{◌≡◌, ◌⊎◌, inl, inr, ℕ, Bool, true, false, cond, List, [], ◌∷◌, ◌++◌, map, refl}
+use Rattle.std.proofs.Common.{◌≡◌, ◌⊎◌, inl, inr, ℕ, Bool, true, false, cond, List, [], ◌∷◌, ◌++◌, map, refl, sym, ◌∙◌, ap}
 use Rattle.dcsctp_spec_lemmas.specs.types.declared.association.Held.{Held}
 use Rattle.dcsctp_spec_lemmas.specs.types.declared.association.Pair.{Pair}
 use Rattle.dcsctp_spec_lemmas.specs.types.declared.kinds.ErrorKind.TheVariants.{ProtocolViolation}
@@ -27,46 +27,66 @@ entry_either entry (newest ∷ first) later (inr has) =
       | inr behind ↦ inr behind
     ]
 
-module _ (streams : List ℕ) where
-  -- They tell of a reset of ours of these streams.
-  abbrev pub Told : List (Event Emission) → Type 0
-  Told told = HasEntry (streams_reset_performed streams) told
+-- What effects tell is of our request.
+pub own_told : (streams theirs own : List ℕ) (happened : List Effect) → HasEntry (streams_reset_performed streams) (reset_events theirs own happened) → streams ≡ own
+own_told streams theirs own [] has = absurd has
+own_told streams theirs own (effects.performs peer number ∷ happened) (inl is) = absurd (cc)
+own_told streams theirs own (effects.performs peer number ∷ happened) (inr has) = own_told streams theirs own happened has
+own_told streams theirs own (effects.completes pair number ∷ happened) (inl is) = cc
+own_told streams theirs own (effects.completes pair number ∷ happened) (inr has) = own_told streams theirs own happened has
+own_told streams theirs own (effects.fails number ∷ happened) (inl is) = absurd (cc)
+own_told streams theirs own (effects.fails number ∷ happened) (inr has) = own_told streams theirs own happened has
+own_told streams theirs own (effect ∷ happened) has = own_told streams theirs own happened has
 
-  -- What effects tell is of our request.
-  pub own_told : (theirs own : List ℕ) (happened : List Effect) → Told (reset_events theirs own happened) → streams ≡ own
-  own_told theirs own [] has = absurd has
-  own_told theirs own (effects.performs peer number ∷ happened) (inl is) = absurd (cc)
-  own_told theirs own (effects.performs peer number ∷ happened) (inr has) = own_told theirs own happened has
-  own_told theirs own (effects.completes pair number ∷ happened) (inl is) = cc
-  own_told theirs own (effects.completes pair number ∷ happened) (inr has) = own_told theirs own happened has
-  own_told theirs own (effects.fails number ∷ happened) (inl is) = absurd (cc)
-  own_told theirs own (effects.fails number ∷ happened) (inr has) = own_told theirs own happened has
-  own_told theirs own (effect ∷ happened) has = own_told theirs own happened has
+-- Or it is of the peer's.
+pub peer_told : (streams theirs own : List ℕ) (happened : List Effect) → HasEntry (incoming_stream_reset streams) (reset_events theirs own happened) → streams ≡ theirs
+peer_told streams theirs own [] has = absurd has
+peer_told streams theirs own (effects.performs peer number ∷ happened) (inl is) = cc
+peer_told streams theirs own (effects.performs peer number ∷ happened) (inr has) = peer_told streams theirs own happened has
+peer_told streams theirs own (effects.completes pair number ∷ happened) (inl is) = absurd (cc)
+peer_told streams theirs own (effects.completes pair number ∷ happened) (inr has) = peer_told streams theirs own happened has
+peer_told streams theirs own (effects.fails number ∷ happened) (inl is) = absurd (cc)
+peer_told streams theirs own (effects.fails number ∷ happened) (inr has) = peer_told streams theirs own happened has
+peer_told streams theirs own (effect ∷ happened) has = peer_told streams theirs own happened has
+
+-- does it tell that a reset was performed?
+abbrev pub tells_reset : Event Emission → Bool
+tells_reset (streams_reset_performed streams) = true
+tells_reset (incoming_stream_reset streams) = true
+tells_reset event = false
+
+-- What tells so:
+module _ (event : Event Emission) (tells : tells_reset event ≡ true) where
+  abbrev pub Told : List (Event Emission) → Type 0
+  Told told = HasEntry event told
+
+  another : {other : Event Emission} → event ≡ other → tells_reset other ≡ false → ⊥
+  another is none = (let clash : true ≡ false = sym tells ∙ ap tells_reset is ∙ none in cc)
 
   -- A flush tells of none.
   filling_none : (told : List FillingEvent) → Told (map filling_event told) → ⊥
   filling_none [] has = has
-  filling_none (amount_is_low stream ∷ told) (inl is) = absurd (cc)
+  filling_none (amount_is_low stream ∷ told) (inl is) = absurd (another is refl)
   filling_none (amount_is_low stream ∷ told) (inr has) = filling_none told has
-  filling_none (total_amount_is_low ∷ told) (inl is) = absurd (cc)
+  filling_none (total_amount_is_low ∷ told) (inl is) = absurd (another is refl)
   filling_none (total_amount_is_low ∷ told) (inr has) = filling_none told has
-  filling_none (message_is_sent id ∷ told) (inl is) = absurd (cc)
+  filling_none (message_is_sent id ∷ told) (inl is) = absurd (another is refl)
   filling_none (message_is_sent id ∷ told) (inr has) = filling_none told has
-  filling_none (message_may_have_expired id ∷ told) (inl is) = absurd (cc)
+  filling_none (message_may_have_expired id ∷ told) (inl is) = absurd (another is refl)
   filling_none (message_may_have_expired id ∷ told) (inr has) = filling_none told has
-  filling_none (message_has_expired id ∷ told) (inl is) = absurd (cc)
+  filling_none (message_has_expired id ∷ told) (inl is) = absurd (another is refl)
   filling_none (message_has_expired id ∷ told) (inr has) = filling_none told has
-  filling_none (message_ends id ∷ told) (inl is) = absurd (cc)
+  filling_none (message_ends id ∷ told) (inl is) = absurd (another is refl)
   filling_none (message_ends id ∷ told) (inr has) = filling_none told has
 
   packet_none : (emission : Emission) → Told (sent emission ∷ []) → ⊥
-  packet_none emission (inl is) = absurd (cc)
+  packet_none emission (inl is) = absurd (another is refl)
   packet_none emission (inr has) = has
 
   out_none : (e : Endpoint) (told : List FillingEvent) (with_checksum : Bool) (tag : ℕ) (contents : List Content) → Told (goes_out e (map filling_event told) with_checksum tag contents).events → ⊥
   out_none e told with_checksum tag [] has = filling_none told has
   out_none e told with_checksum tag (content ∷ contents) has =
-      elim (entry_either (streams_reset_performed streams) (map filling_event told) (sent (record { with_checksum = with_checksum; packet = record { tag = tag; contents = content ∷ contents } }) ∷ []) has) [
+      elim (entry_either event (map filling_event told) (sent (record { with_checksum = with_checksum; packet = record { tag = tag; contents = content ∷ contents } }) ∷ []) has) [
         | inl front ↦ filling_none told front
         | inr behind ↦ packet_none _ behind
       ]
@@ -77,7 +97,7 @@ module _ (streams : List ℕ) where
   flush_none : (e : Endpoint) (draft : Emission) (answers : List Answer) → Told (flush_of e draft answers).events → ⊥
   flush_none e draft [] has = has
   flush_none e draft (answer ∷ answers) has =
-      elim (entry_either (streams_reset_performed streams) (asked_outcome e draft answer).events (flush_of (asked_outcome e draft answer).after (next_draft e.core draft) answers).events has) [
+      elim (entry_either event (asked_outcome e draft answer).events (flush_of (asked_outcome e draft answer).after (next_draft e.core draft) answers).events has) [
         | inl front ↦ asked_none e draft answer front
         | inr behind ↦ flush_none (asked_outcome e draft answer).after (next_draft e.core draft) answers behind
       ]
@@ -93,22 +113,22 @@ module _ (streams : List ℕ) where
       answered_by (λ (o : Outcome). Told o.events → ⊥) e emission (λ none. none) (packet_where_none (fits e emission) e emission)) has
 
   error_none : (text : List ℕ) → Told (error ProtocolViolation text ∷ []) → ⊥
-  error_none text (inl is) = absurd (cc)
+  error_none text (inl is) = absurd (another is refl)
   error_none text (inr has) = has
 
   -- So a RE-CONFIG tells what its effects tell.
   pub sent_tell : (refused : Bool) (e : Endpoint) (told : List (Event Emission)) (held : Held) (parameters responses : List ResetParameter) (answers : List Answer)
       → Told (responses_unless_refused refused e told held parameters responses answers).events → Told told
   sent_tell true e told held parameters responses answers has =
-      elim (entry_either (streams_reset_performed streams) told (error ProtocolViolation (reset_refusal_text parameters) ∷ []) has) [
+      elim (entry_either event told (error ProtocolViolation (reset_refusal_text parameters) ∷ []) has) [
         | inl front ↦ front
         | inr behind ↦ absurd (error_none (reset_refusal_text parameters) behind)
       ]
   sent_tell false e told held parameters responses answers has =
       let base : Outcome = responses_outcome e held responses in
-      elim (entry_either (streams_reset_performed streams) (told ++ base.events) (flush_of base.after (draft_to held) answers).events has) [
+      elim (entry_either event (told ++ base.events) (flush_of base.after (draft_to held) answers).events has) [
         | inl front ↦
-            elim (entry_either (streams_reset_performed streams) told base.events front) [
+            elim (entry_either event told base.events front) [
               | inl shown ↦ shown
               | inr answered ↦ absurd (responses_none e held responses answered)
             ]

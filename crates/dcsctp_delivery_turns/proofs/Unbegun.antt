@@ -1,21 +1,22 @@
 -- A socket that has had no association has begun no message.
 use Rattle.std.proofs.Common.{◌≡◌, ◌==◌, ℕ, Bool, true, false, ◌%◌, ◌^◌, Option, None, Some, List, [], ◌∷◌, map, refl, sym, ◌∙◌, ap, subst, inl, inr}
 use Rattle.std.specs.Prelude.{if◌then◌else◌}
+use Rattle.dcsctp_spec_lemmas.specs.types.declared.sending.Pause.TheVariants.{Open}
 use Rattle.dcsctp_spec_lemmas.specs.types.declared.sending.UnderWay.{UnderWay}
 use Rattle.dcsctp_spec_lemmas.specs.types.queues.SendStreams.{Stream, unused_stream, next_numbers, with_message, renumbered_stream}
 use Rattle.dcsctp_spec_lemmas.specs.types.Setting.{Setting, stream_priority, stream_low_threshold, longest_message}
 use Rattle.dcsctp_spec_lemmas.specs.spec.Packet.{Content}
 use Rattle.dcsctp_spec_lemmas.specs.spec.association.Effect.{identity_of_core}
-use Rattle.dcsctp_spec_lemmas.specs.spec.endpoint.Endpoint.{Endpoint, Core, closed, cookie_wait, cookie_echoed, open_in, OutstandingRequest}
+use Rattle.dcsctp_spec_lemmas.specs.spec.endpoint.Endpoint.{Endpoint, Core, closed, cookie_wait, cookie_echoed, open_in, OutstandingRequest, held_by_core}
 use Rattle.dcsctp_spec_lemmas.specs.spec.endpoint.Event.{packets_of_events}
 use Rattle.dcsctp_spec_lemmas.specs.spec.endpoint.FlushOutcomes.{first_ask, packets_allowed}
 use Rattle.dcsctp_spec_lemmas.specs.spec.endpoint.MessageOutcomes.{Sending, sending_queued}
 use Rattle.dcsctp_spec_lemmas.specs.spec.endpoint.Outcome.{Outcome}
+use Rattle.dcsctp_spec_lemmas.specs.spec.endpoint.PreparedResets.{refusal_of_peer}
 use Rattle.dcsctp_spec_lemmas.specs.spec.endpoint.SettingOutcomes.{set_in_queue}
 use Rattle.dcsctp_spec_lemmas.specs.spec.endpoint.Turn.{Input}
-use Rattle.dcsctp_spec_lemmas.specs.spec.queues.Incoming.{is_named}
-use Rattle.dcsctp_spec_lemmas.specs.spec.queues.OwnResets.{is_open_pause, count_under_way, dropped_size, prepared_stream, with_used, prepared_open, queue_with_prepared, prepared_all}
-use Rattle.dcsctp_spec_lemmas.specs.spec.queues.SendQueue.{SendQueueState, stream_changed, used_streams, queue_stream, queued_message as waiting_as, with_priority, with_threshold, put_back, queue_restarted, is_other, numbered_if_new, numbered_for}
+use Rattle.dcsctp_spec_lemmas.specs.spec.queues.OwnResets.{is_open_pause}
+use Rattle.dcsctp_spec_lemmas.specs.spec.queues.SendQueue.{SendQueueState, stream_changed, used_streams, queued_message as waiting_as, with_priority, with_threshold, put_back, queue_restarted, is_other, numbered_if_new, numbered_for}
 use Rattle.dcsctp_spec_lemmas.specs.spec.queues.Transfer.{Transfer, EndpointQueues}
 use Rattle.dcsctp_delivery_sending.specs.Numbers.{stream_named}
 use Rattle.dcsctp_delivery_sending.proofs.StreamsNamed.{found_mapped, found_used}
@@ -24,30 +25,30 @@ use Rattle.dcsctp_delivery_sending.specs.Log.{Message}
 use Rattle.dcsctp_delivery_sending.specs.Losing.{IsOpenOn, AllWaitOn}
 use Rattle.dcsctp_delivery_sending.proofs.StillWaiting.{waits_mapped}
 use Rattle.dcsctp_delivery_turns.specs.Asking.{Own, own_of_core, own_of, AsksFit}
-use Rattle.dcsctp_delivery_turns.specs.Actions.{Ledger, Action, queues, sets, flushes, resends, resends_nothing, speaks, asks_again, acknowledges, loses, receives, receives_interleaved, forwards, forwards_interleaved, tracks, times, takes, Actions, nothing, further, content_of_input, peer_tag, queued_after, read_after, Inside, inside, MakesAlso, OwnEnds, unended, committed, rolled_back, PeerResets, unreset, absent, deferred, reset_now, BeginsAssociation, Becomes, streams_user_resets, goes_on, pauses, prepared_inside, works_resets, renews, ends, begins, collides}
+use Rattle.dcsctp_delivery_turns.specs.Actions.{Ledger, Action, queues, sets, flushes, resends, resends_nothing, speaks, asks_again, acknowledges, loses, receives, receives_interleaved, forwards, forwards_interleaved, tracks, times, takes, Actions, nothing, further, content_of_input, peer_tag, queued_after, read_after, Inside, inside, MakesAlso, OwnEnds, unended, committed, rolled_back, PeerResets, unreset, absent, deferred, reset_now, BeginsAssociation, Becomes, streams_user_resets, goes_on, pauses, works_resets, renews, ends, begins, collides}
 use Rattle.dcsctp_delivery_turns.specs.Unbegun.{IsAtZero, UnbegunTurns, stays_unbegun, begins_first, StaysWaiting, StaysAtZero, UnbegunBeginsAtZero, UnbegunBeginsWaiting, FreshIsAtZero}
 use Rattle.dcsctp_delivery_turns.proofs.Beginnings.{unlinked_fits}
-use Rattle.dcsctp_delivery_turns.proofs.ResetInputs.{named_by}
 use Rattle.dcsctp_delivery_turns.proofs.IdleFlush.{flush_still}
 use Rattle.dcsctp_delivery_turns.proofs.Turns.{turns_are_actions}
-use Rattle.dcsctp_delivery_turns.proofs.UnbegunOn.{WaitsOnStream, all_on_stream, all_on_prepared, actions_wait_on}
+use Rattle.dcsctp_delivery_turns.proofs.UnbegunOn.{WaitsOnStream, all_on_stream, actions_wait_on}
 
 -- ---- streams whose next numbers stay
 
--- the next message has the same numbers
+-- the next message has the same numbers, and the stream is to be reset, or isn't, as before
 record SameNext (old new : Stream) : Type 0 where
   ordered : next_numbers false new ≡ next_numbers false old
   unordered : next_numbers true new ≡ next_numbers true old
+  pause : new.pause ≡ old.pause
 
 same_next : (s : Stream) → SameNext s s
-same_next s = record { ordered = refl; unordered = refl }
+same_next s = record { ordered = refl; unordered = refl; pause = refl }
 
 -- So it is with the stream of each number.
 abbrev NextStay : List Stream → List Stream → Type 0
 NextStay old new = (id : ℕ) → SameNext (stream_named id old) (stream_named id new)
 
 next_then : (old between new : List Stream) → NextStay old between → NextStay between new → NextStay old new
-next_then old between new first second id = record { ordered = (second id).ordered ∙ (first id).ordered; unordered = (second id).unordered ∙ (first id).unordered }
+next_then old between new first second id = record { ordered = (second id).ordered ∙ (first id).ordered; unordered = (second id).unordered ∙ (first id).unordered; pause = (second id).pause ∙ (first id).pause }
 
 -- one stream is changed
 next_changed : (other : ℕ) (f : Stream → Stream) → ((s : Stream) → (f s).id ≡ s.id) → ((s : Stream) → SameNext s (f s)) → (streams : List Stream) → NextStay streams (stream_changed other f streams)
@@ -64,7 +65,7 @@ next_changed other f same each streams id =
 
 -- one is used for the first time
 next_used : (queue : SendQueueState) (other : ℕ) → NextStay queue.streams (used_streams queue other)
-next_used queue other id = found_used SameNext id queue other same_next (λ s t unordered ordered none pause. record { ordered = sym ordered; unordered = sym unordered })
+next_used queue other id = found_used SameNext id queue other same_next (λ s t unordered ordered none pause. record { ordered = sym ordered; unordered = sym unordered; pause = pause })
 
 -- one is used, and changed
 next_set : (queue : SendQueueState) (other : ℕ) (f : Stream → Stream) → ((s : Stream) → (f s).id ≡ s.id) → ((s : Stream) → SameNext s (f s)) → NextStay queue.streams (stream_changed other f (used_streams queue other))
@@ -75,38 +76,24 @@ next_set queue other f same each =
 
 zero_stays : (old new : SendQueueState) → new.under_way ≡ old.under_way → NextStay old.streams new.streams → IsAtZero old → IsAtZero new
 zero_stays old new going stay zero =
-    record { idle = going ∙ zero.idle; ordered = λ id. (stay id).ordered ∙ zero.ordered id; unordered = λ id. (stay id).unordered ∙ zero.unordered id }
+    record {
+      idle = going ∙ zero.idle;
+      ordered = λ id. (stay id).ordered ∙ zero.ordered id;
+      unordered = λ id. (stay id).unordered ∙ zero.unordered id;
+      unpaused = λ id. ap is_open_pause (stay id).pause ∙ zero.unpaused id;
+    }
 
 zero_queued : (now : ℕ) (sending : Sending) (queue : SendQueueState) → IsAtZero queue → IsAtZero (sending_queued now sending queue)
 zero_queued now sending queue =
     zero_stays queue (sending_queued now sending queue) refl
-    (next_set queue sending.message.stream (with_message (waiting_as now sending.message sending.options queue)) (λ s. refl) (λ s. record { ordered = refl; unordered = refl }))
+    (next_set queue sending.message.stream (with_message (waiting_as now sending.message sending.options queue)) (λ s. refl) (λ s. record { ordered = refl; unordered = refl; pause = refl }))
 
 zero_set : (setting : Setting) (queue : SendQueueState) → IsAtZero queue → IsAtZero (set_in_queue setting queue)
 zero_set (stream_priority id priority) queue =
-    zero_stays queue (set_in_queue (stream_priority id priority) queue) refl (next_set queue id (with_priority priority) (λ s. refl) (λ s. record { ordered = refl; unordered = refl }))
+    zero_stays queue (set_in_queue (stream_priority id priority) queue) refl (next_set queue id (with_priority priority) (λ s. refl) (λ s. record { ordered = refl; unordered = refl; pause = refl }))
 zero_set (stream_low_threshold id bytes) queue =
-    zero_stays queue (set_in_queue (stream_low_threshold id bytes) queue) refl (next_set queue id (with_threshold bytes) (λ s. refl) (λ s. record { ordered = refl; unordered = refl }))
+    zero_stays queue (set_in_queue (stream_low_threshold id bytes) queue) refl (next_set queue id (with_threshold bytes) (λ s. refl) (λ s. record { ordered = refl; unordered = refl; pause = refl }))
 zero_set (longest_message bytes) queue = λ zero. zero
-
-zero_prepared_one : (id : ℕ) (queue : SendQueueState) → IsAtZero queue → IsAtZero (queue_with_prepared id queue)
-zero_prepared_one id queue zero = go (is_open_pause (queue_stream left id).pause)
-  where
-    left : SendQueueState
-    left = with_used id queue
-
-    kept : IsAtZero left
-    kept = zero_stays queue left refl (next_used queue id) zero
-
-    go : (b : Bool) → IsAtZero (if b then prepared_open id left else left)
-    go true =
-        zero_stays left (prepared_open id left) refl
-        (next_changed id (prepared_stream (dropped_size id left) (count_under_way id left.under_way)) (λ s. refl) (λ s. record { ordered = refl; unordered = refl }) left.streams) kept
-    go false = kept
-
-zero_prepared : (ids : List ℕ) (queue : SendQueueState) → IsAtZero queue → IsAtZero (prepared_all ids queue)
-zero_prepared [] queue zero = zero
-zero_prepared (id ∷ ids) queue zero = zero_prepared ids (queue_with_prepared id queue) (zero_prepared_one id queue zero)
 
 -- ---- actions without an association
 
@@ -149,6 +136,13 @@ own_none closed request none = refl
 own_none (cookie_wait my) request none = refl
 own_none (cookie_echoed my held cookie) request none = absurd (cc)
 own_none (open_in phase my held) request none = absurd (cc)
+
+-- A call that resets streams is refused then.
+some_peer : (core : Core) → refusal_of_peer (held_by_core core) ≡ None → identity_of_core core ≡ None → ⊥
+some_peer closed is none = cc
+some_peer (cookie_wait my) is none = cc
+some_peer (cookie_echoed my held cookie) is none = cc
+some_peer (open_in phase my held) is none = cc
 
 module _ (e : Endpoint) (input : Input) (o : Outcome) (unlinked : identity_of_core e.core ≡ None) (none : e.queues.transfer ≡ None) (zero : IsAtZero e.queues.queue) where
   start : IsUnbegun e.queues
@@ -199,13 +193,7 @@ module _ (e : Endpoint) (input : Input) (o : Outcome) (unlinked : identity_of_co
   unbegun_becomes (goes_on calm same makes) =
       let left = makes_unbegun (inside e) (inside o.after) refl makes in
       stays_unbegun (same ∙ unlinked) left.none left.zero (stays_waiting (inside e) (inside o.after) refl makes refl)
-  unbegun_becomes (pauses ids resets calm same small makes) =
-      let left = makes_from (prepared_inside ids (inside e)) (inside o.after) (record { none = none; zero = zero_prepared ids e.queues.queue zero }) refl makes in
-      stays_unbegun (same ∙ unlinked) left.none left.zero
-      (λ id queued waits few spared all. (
-      let unnamed : is_named ids id ≡ false = sym (named_by input ids id resets) ∙ spared in
-      (waits_from (prepared_inside ids (inside e)) (inside o.after) refl makes id queued (all_on_prepared id queued ids e.queues none small unnamed waits all)).all few
-      ))
+  unbegun_becomes (pauses ids resets calm accepted same small makes) = absurd (some_peer e.core accepted unlinked)
   unbegun_becomes (works_resets same between worked own peer makes) =
       let first : between ≡ inside e = own_stays (inside e) between own_is own in
       let second : worked ≡ between = peer_stays between worked (subst (λ (i : Inside). IsUnbegun i.queues) (sym first) start) peer in
@@ -226,29 +214,29 @@ stays_at_zero e input o unlinked none zero may turn =
 -- ---- the queue of an association that begins
 
 pub fresh_is_at_zero : FreshIsAtZero
-fresh_is_at_zero options = record { idle = refl; ordered = λ id. refl; unordered = λ id. refl }
+fresh_is_at_zero options = record { idle = refl; ordered = λ id. refl; unordered = λ id. refl; unpaused = λ id. refl }
 
 numbered_idle : (enabled : Bool) (queue : SendQueueState) → queue.under_way ≡ None → numbered_for enabled queue ≡ record queue { is_interleaved = enabled }
 numbered_idle enabled queue idle = ap (λ (u : Option UnderWay). numbered_if_new u (is_other queue.is_interleaved enabled) (record queue { is_interleaved = enabled })) idle
 
 -- How messages are numbered may change.
 zero_numbered : (enabled : Bool) (queue : SendQueueState) → IsAtZero queue → IsAtZero (numbered_for enabled queue)
-zero_numbered enabled queue zero = subst IsAtZero (sym (numbered_idle enabled queue zero.idle)) (record { idle = zero.idle; ordered = zero.ordered; unordered = zero.unordered })
+zero_numbered enabled queue zero = subst IsAtZero (sym (numbered_idle enabled queue zero.idle)) (record { idle = zero.idle; ordered = zero.ordered; unordered = zero.unordered; unpaused = zero.unpaused })
 
--- The numbers may start again.
+-- The numbers may start again, and then no stream is to be reset.
 StartsAgain : Stream → Stream → Type 0
-StartsAgain old new = (next_numbers false new ≡ (0, 0)) × (next_numbers true new ≡ (0, 0))
+StartsAgain old new = (next_numbers false new ≡ (0, 0)) × (next_numbers true new ≡ (0, 0)) × (new.pause ≡ Open)
 
 zero_restarted : (queue : SendQueueState) → IsAtZero queue → IsAtZero (queue_restarted queue)
 unfolding StartsAgain
-zero_restarted queue zero = record { idle = put_back_idle queue.under_way zero.idle; ordered = λ id. (again id).0; unordered = λ id. (again id).1 }
+zero_restarted queue zero = record { idle = put_back_idle queue.under_way zero.idle; ordered = λ id. (again id).0; unordered = λ id. (again id).1; unpaused = λ id. ap is_open_pause (again id).2 }
   where
     put_back_idle : (under_way : Option UnderWay) → under_way ≡ None → (put_back under_way queue).under_way ≡ None
     put_back_idle None is = zero.idle
     put_back_idle (Some under_way) is = refl
 
     again : (id : ℕ) → StartsAgain (stream_named id (put_back queue.under_way queue).streams) (stream_named id (queue_restarted queue).streams)
-    again id = found_mapped StartsAgain id (unused_stream 0 0 0) renumbered_stream (λ s. refl) (refl, refl) (λ s is. (refl, refl)) (put_back queue.under_way queue).streams
+    again id = found_mapped StartsAgain id (unused_stream 0 0 0) renumbered_stream (λ s. refl) (refl, refl, refl) (λ s is. (refl, refl, refl)) (put_back queue.under_way queue).streams
 
 -- Either way its queue is at 0.
 pub begun_is_at_zero : (e : Endpoint) (o : Outcome) (begun : BeginsAssociation e o) → IsAtZero e.queues.queue → IsAtZero begun.queue
@@ -265,6 +253,7 @@ zero_begins queue zero =
       rest = λ u waiting is front. absurd (let both : None ≡ Some u = sym zero.idle ∙ is in cc);
       zero = λ id. ap (λ (p : ℕ × ℕ). p.1 % 2 ^ 32) (zero.ordered id);
       ssn = λ id. ap (λ (p : ℕ × ℕ). p.0) (zero.ordered id);
+      unpaused = zero.unpaused;
     }
 
 pub unbegun_begins_at_zero : UnbegunBeginsAtZero

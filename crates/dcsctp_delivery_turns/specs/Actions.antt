@@ -29,6 +29,7 @@ use Rattle.dcsctp_spec_lemmas.specs.spec.queues.Tracker.{TrackerState}
 use Rattle.dcsctp_spec_lemmas.specs.spec.queues.Transfer.{Transfer, EndpointQueues, new_transfer, transfer_kept}
 use Rattle.dcsctp_spec_lemmas.specs.spec.endpoint.FlushOutcomes.{Answer, FlushAnswers, flush_of}
 use Rattle.dcsctp_spec_lemmas.specs.spec.endpoint.MessageOutcomes.{MessageRefusal, Sending, sending_queued, sending_refusal, queue_one}
+use Rattle.dcsctp_spec_lemmas.specs.spec.endpoint.PreparedResets.{reset_refusal}
 use Rattle.dcsctp_spec_lemmas.specs.spec.endpoint.ResetOutcomes.{has_completed, has_reset, first_reset_request}
 use Rattle.dcsctp_spec_lemmas.specs.types.Setting.{Setting}
 use Rattle.dcsctp_spec_lemmas.specs.spec.endpoint.SettingOutcomes.{set_in_queue}
@@ -329,12 +330,12 @@ kept_inside {e = e} collision again =
     }
 
 -- What becomes of a socket's association in a turn. It continues, or there is none and none begins. It also continues where the
--- user resets streams: these are prepared first. Or our request continues under the next number, in a packet of its own, and
+-- user resets streams and isn't refused: these are prepared first. Or our request continues under the next number, in a packet of its own, and
 -- nothing else happens. Or the association ends after its last packets, which report no TSN, and no request of ours begins or ends
 -- before. Or another one begins, and takes its place; or both ends began at the same time.
 pub data Becomes (resets : Option (List ℕ)) (came : Option Content) (to : ℕ) (adds : List Message → List Message) (taken : List MessageContent → List MessageContent) (e : Endpoint) (o : Outcome) : Type 0 where
   goes_on : IsCalm came → identity_of_core o.after.core ≡ identity_of_core e.core → MakesAlso came to adds taken (inside e) (packets_of_events o.events) (inside o.after) → Becomes resets came to adds taken e o
-  pauses : (ids : List ℕ) → resets ≡ Some ids → IsCalm came → identity_of_core o.after.core ≡ identity_of_core e.core → AllByRecursion (λ id. id < 2 ^ 16) ids
+  pauses : (ids : List ℕ) → resets ≡ Some ids → IsCalm came → reset_refusal e ≡ None → identity_of_core o.after.core ≡ identity_of_core e.core → AllByRecursion (λ id. id < 2 ^ 16) ids
       → MakesAlso came to adds taken (prepared_inside ids (inside e)) (packets_of_events o.events) (inside o.after) → Becomes resets came to adds taken e o
   works_resets : identity_of_core o.after.core ≡ identity_of_core e.core → (between worked : Inside) → OwnEnds o.effects (inside e) between → PeerResets came o.effects between worked
       → MakesAlso came to adds taken worked (packets_of_events o.events) (inside o.after) → Becomes resets came to adds taken e o

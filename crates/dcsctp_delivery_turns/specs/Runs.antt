@@ -1,5 +1,5 @@
 -- A turn of a socket, as what it does to runs of the two directions of its association.
-use Rattle.std.specs.Prelude.{◌≡◌, ◌⊎◌, ◌<◌, ◌^◌, ℕ, Bool, true, false, Option, None, Some, List, [], ◌∷◌, ◌++◌, length}
+use Rattle.std.specs.Prelude.{◌≡◌, ◌⊎◌, ◌<◌, ◌+◌, ◌^◌, ℕ, Bool, true, false, Option, None, Some, List, [], ◌∷◌, ◌++◌, length}
 use Rattle.dcsctp_spec_lemmas.specs.types.declared.options.Options.{Options}
 use Rattle.dcsctp_spec_lemmas.specs.spec.endpoint.Endpoint.{Endpoint}
 use Rattle.dcsctp_spec_lemmas.specs.spec.endpoint.Event.{packets_of_events}
@@ -20,6 +20,7 @@ use Rattle.dcsctp_spec_lemmas.specs.spec.Reconfiguration.{RequestedReset, ResetP
 use Rattle.dcsctp_spec_lemmas.specs.spec.association.Effect.{Effect}
 use Rattle.dcsctp_spec_lemmas.specs.spec.association.FlushChanges.{next_number}
 use Rattle.dcsctp_spec_lemmas.specs.spec.endpoint.BegunResets.{BegunReset}
+use Rattle.dcsctp_spec_lemmas.specs.spec.endpoint.PreparedResets.{reset_refusal}
 use Rattle.dcsctp_spec_lemmas.specs.spec.endpoint.ResetOutcomes.{has_completed, has_reset, first_reset_request}
 use Rattle.dcsctp_delivery_receiving.specs.Clear.{IsOwn}
 use Rattle.dcsctp_delivery_turns.specs.Asking.{own_of, AsksFit, SomeFit, AskingGrows}
@@ -27,7 +28,7 @@ use Rattle.dcsctp_delivery_turns.specs.Addressed.{AreAddressed}
 use Rattle.dcsctp_delivery_turns.specs.Reports.{ComesReported}
 use Rattle.dcsctp_delivery_sending.specs.Queueing.{QueueWaits}
 use Rattle.dcsctp_delivery_turns.specs.Sides.{WasSent, receiving}
-use Rattle.dcsctp_delivery_directions.specs.Directions.{Direction, Beginning, HasReached, BeginsAs, Asking, nothing_asked, asking_renewed, all_ended, DirectionRun, IsAwaited}
+use Rattle.dcsctp_delivery_directions.specs.Directions.{MayReset, PerformedReset, Direction, Beginning, HasReached, BeginsAs, Asking, nothing_asked, asking_renewed, all_ended, DirectionRun, IsAwaited}
 
 -- the direction, with this at its sender
 abbrev pub direction_with_sender : Direction → List Message → EndpointQueues → ℕ → List Emission → Asking → Direction
@@ -45,6 +46,7 @@ new_direction options first size queued sender_queues acknowledged sent beginnin
       tracker = new_tracker options first;
       reassembly = new_reassembly size (part_overhead options);
       read = [];
+      performed = [];
       asking = nothing_asked;
       beginning = beginning;
     }
@@ -107,9 +109,9 @@ EndsPerformed e o asking = has_completed o.effects ≡ true → e.queues.queue.i
 abbrev pub RefusesNone : Endpoint → Outcome → Type 0
 RefusesNone e o = e.queues.queue.is_interleaved ≡ true → has_refused o.effects ≡ false
 
--- The sender doesn't keep the streams that the user resets by it.
-abbrev pub MayDrop : Input → Beginning → Type 0
-MayDrop input beginning = (ids : List ℕ) → streams_user_resets input ≡ Some ids → AllByRecursion (λ id. beginning.keeps id ≡ false) ids
+-- The streams that the user resets by it, if it isn't refused, may be reset when so many messages were queued.
+abbrev pub MayDrop : Endpoint → Input → ℕ → Beginning → Type 0
+MayDrop e input count beginning = reset_refusal e ≡ None → (ids : List ℕ) → streams_user_resets input ≡ Some ids → AllByRecursion (MayReset beginning count) ids
 
 -- If an association begins in this turn, its own first TSN has 32 bits.
 abbrev pub OpensSmall : Endpoint → Input → Outcome → Type 0
@@ -123,20 +125,20 @@ IsTrueAcknowledgement direction e input = (transfer : Transfer) → e.queues.tra
 abbrev pub SendersGoOn : Type 0
 SendersGoOn =
     (options : Options) (first size : ℕ) (direction : Direction) (e : Endpoint) (input : Input) (o : Outcome) → DirectionRun options first size direction → first < 2 ^ 32 → direction.queues ≡ e.queues
-    → AsksFit first (own_of e) direction.asking → EndsPerformed e o direction.asking → RefusesNone e o → MayDrop input direction.beginning → OpensSmall e input o → IsTrueAcknowledgement direction e input
+    → AsksFit first (own_of e) direction.asking → EndsPerformed e o direction.asking → RefusesNone e o → MayDrop e input (length direction.queued) direction.beginning → OpensSmall e input o → IsTrueAcknowledgement direction e input
     → length (queued_after e input direction.queued) < 2 ^ 64 → IsCall input → Turn e input o → SenderTurns options first size direction e input o
 
 -- A run begins where the socket was just made, with number 0 on each stream and nothing queued,
 abbrev pub SendersBegin : Type 0
 SendersBegin =
-    (mine options : Options) (first size : ℕ) (keeps : ℕ → Bool)
-    → DirectionRun options first size (new_direction options first size [] (record { queue = empty_queue mine; transfer = None }) 0 [] (record { from_zero = true; keeps = keeps }))
+    (mine options : Options) (first size : ℕ) (keeps : ℕ → Bool) (asks : ℕ → ℕ → Bool)
+    → DirectionRun options first size (new_direction options first size [] (record { queue = empty_queue mine; transfer = None }) 0 [] (record { from_zero = true; keeps = keeps; asks = asks }))
 
 -- and where its association has ended.
 abbrev pub SendersBeginAgain : Type 0
 SendersBeginAgain =
-    (options : Options) (first size : ℕ) (queued : List Message) (sender_queues : EndpointQueues) → AllByRecursion Fits queued → QueueWaits queued sender_queues.queue → sender_queues.transfer ≡ None
-    → DirectionRun options first size (new_direction options first size queued sender_queues 0 [] (record { from_zero = false; keeps = λ id. false }))
+    (options : Options) (first size : ℕ) (asks : ℕ → ℕ → Bool) (queued : List Message) (sender_queues : EndpointQueues) → AllByRecursion Fits queued → QueueWaits queued sender_queues.queue → sender_queues.transfer ≡ None
+    → DirectionRun options first size (new_direction options first size queued sender_queues 0 [] (record { from_zero = false; keeps = λ id. false; asks = asks }))
 
 -- An association begins, and what its receiver does in the same turn are steps of a run. It waits for no reset.
 pub record OpensAssociation (e : Endpoint) (input : Input) (o : Outcome) : Type 0 where
@@ -184,11 +186,23 @@ PerformsByTurn is_known input o direction asking =
     (is_reset : Bool) × (is_reset ≡ false → has_reset o.effects ≡ false ⊎ IsCalm (content_of_input input)) × (is_reset ≡ true → has_reset o.effects ≡ true)
     × (asking ≡ performed_if_reset is_known is_reset direction.asking)
 
+-- What it has performed then, if so many messages were read or are ready after the turn: the request that is handled, too, if it is
+-- performed in the turn.
+pub data RecordsByTurn (input : Input) (o : Outcome) (count : ℕ) (old : List PerformedReset) : List PerformedReset → Type 0 where
+  records_none : (has_reset o.effects ≡ false) ⊎ IsCalm (content_of_input input) → RecordsByTurn input o count old old
+  records_one : (parameters : List ResetParameter) (reset : RequestedReset) → content_of_input input ≡ Some (re_config parameters) → first_reset_request parameters ≡ Some reset
+      → RecordsByTurn input o count old (record { streams = reset.streams; index = count } ∷ old)
+
+-- how many messages were read of these, or are ready
+abbrev pub reached_count : List MessageContent → Transfer → ℕ
+reached_count read transfer = length read + length transfer.reassembly.incoming.ready
+
 -- A turn of the receiver continues the run, if what it handles was sent; or the association ends, maybe after it has received
 -- more; or another one begins.
 pub data ReceiverTurns (is_known : Bool) (options : Options) (first size : ℕ) (direction : Direction) (transfer : Transfer) (turn : TakenTurn) : Type 0 where
   receiver_goes_on : identity_of_core turn.outcome.after.core ≡ identity_of_core turn.before.core → (left : Transfer) → turn.outcome.after.queues.transfer ≡ Some left → SomeFit (own_of turn.outcome.after) → (asking : Asking) → PerformsByTurn is_known turn.input turn.outcome direction asking
-      → DirectionRun options first size (record (receiving direction left (read_after turn.before turn.input direction.read)) { asking = asking }) → ReceiverTurns is_known options first size direction transfer turn
+      → (performed : List PerformedReset) → RecordsByTurn turn.input turn.outcome (reached_count (read_after turn.before turn.input direction.read) left) direction.performed performed
+      → DirectionRun options first size (record (receiving direction left (read_after turn.before turn.input direction.read)) { performed = performed; asking = asking }) → ReceiverTurns is_known options first size direction transfer turn
   receiver_ends : identity_of_core turn.outcome.after.core ≡ None → turn.outcome.after.queues.transfer ≡ None → ((read : List MessageContent) → read_after turn.before turn.input read ≡ read) → ReceiverTurns is_known options first size direction transfer turn
   receiver_begins : OpensAssociation turn.before turn.input turn.outcome → ReceiverTurns is_known options first size direction transfer turn
 

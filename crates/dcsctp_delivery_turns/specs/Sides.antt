@@ -14,7 +14,7 @@ use Rattle.dcsctp_delivery_turns.specs.Actions.{Ledger, Actions}
 use Rattle.dcsctp_delivery_turns.specs.PeerRequests.{SameWaits}
 use Rattle.dcsctp_delivery_turns.specs.Reports.{ComesReported}
 use Rattle.dcsctp_delivery_sending.specs.Places.{HasEntry}
-use Rattle.dcsctp_delivery_directions.specs.Directions.{Direction, Beginning, HasReached, DirectionStep, DirectionRun}
+use Rattle.dcsctp_delivery_directions.specs.Directions.{PerformedReset, Direction, Beginning, HasReached, DirectionStep, DirectionRun}
 
 -- one step after another
 pub data DirectionSteps (old : Direction) : Direction → Type 0 where
@@ -27,33 +27,44 @@ StepsGoOn = (options : Options) (first size : ℕ) (old new : Direction) → Dir
 
 -- ---- the direction on which it sends
 
--- the direction, with what the other side has received, and whether the socket began with number 0 on each stream
-abbrev pub sending : Ledger → ℕ → ℕ → TrackerState → ReassemblyState → List MessageContent → Beginning → Direction
-sending own acknowledged first_tsn tracker reassembly read beginning =
-    record { queued = own.queued; queues = own.queues; acknowledged = acknowledged; sent = own.sent; first_tsn = first_tsn; tracker = tracker; reassembly = reassembly; read = read; asking = own.asking; beginning = beginning }
-
--- what the other side has received, and its user has read
+-- what the other side has received, what its user has read, and which resets it has performed
 pub record ReceivedSoFar : Type 0 where
   pub tracker : TrackerState
   pub reassembly : ReassemblyState
   pub read : List MessageContent
+  pub performed : List PerformedReset
 
-abbrev pub received_so_far : TrackerState → ReassemblyState → List MessageContent → ReceivedSoFar
-received_so_far tracker reassembly read = record { tracker = tracker; reassembly = reassembly; read = read }
+abbrev pub received_so_far : Direction → ReceivedSoFar
+received_so_far direction = record { tracker = direction.tracker; reassembly = direction.reassembly; read = direction.read; performed = direction.performed }
+
+-- the direction, with what the other side has received, and how the socket began
+abbrev pub sending : Ledger → ℕ → ℕ → ReceivedSoFar → Beginning → Direction
+sending own acknowledged first_tsn received beginning =
+    record {
+      queued = own.queued;
+      queues = own.queues;
+      acknowledged = acknowledged;
+      sent = own.sent;
+      first_tsn = first_tsn;
+      tracker = received.tracker;
+      reassembly = received.reassembly;
+      read = received.read;
+      performed = received.performed;
+      asking = own.asking;
+      beginning = beginning;
+    }
 
 -- The socket comes there by steps; more TSNs may have been acknowledged.
 pub record SendingSteps (old new : Ledger) (acknowledged first_tsn : ℕ) (received : ReceivedSoFar) (beginning : Beginning) : Type 0 where
   pub later : ℕ
-  pub steps : DirectionSteps
-      (sending old acknowledged first_tsn received.tracker received.reassembly received.read beginning)
-      (sending new later first_tsn received.tracker received.reassembly received.read beginning)
+  pub steps : DirectionSteps (sending old acknowledged first_tsn received beginning) (sending new later first_tsn received beginning)
 
 -- Whatever is received, the actions of a socket are steps of the direction on which it sends, where what acknowledges reports a TSN
 -- that the other side has reached.
 abbrev pub ActionsSend : Type 0
 ActionsSend =
-    (came : Option Content) (to : ℕ) (old new : Ledger) (acknowledged first_tsn : ℕ) (tracker : TrackerState) (reassembly : ReassemblyState) (read : List MessageContent) (beginning : Beginning)
-    → ((transfer : Transfer) → old.queues.transfer ≡ Some transfer → ComesReported (HasReached first_tsn tracker) came) → Actions came to old new → SendingSteps old new acknowledged first_tsn (received_so_far tracker reassembly read) beginning
+    (came : Option Content) (to : ℕ) (old new : Ledger) (acknowledged first_tsn : ℕ) (received : ReceivedSoFar) (beginning : Beginning)
+    → ((transfer : Transfer) → old.queues.transfer ≡ Some transfer → ComesReported (HasReached first_tsn received.tracker) came) → Actions came to old new → SendingSteps old new acknowledged first_tsn received beginning
 
 -- ---- the direction on which it receives
 

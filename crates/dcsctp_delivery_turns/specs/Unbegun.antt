@@ -7,6 +7,7 @@ use Rattle.dcsctp_spec_lemmas.specs.spec.association.Effect.{identity_of, identi
 use Rattle.dcsctp_spec_lemmas.specs.spec.endpoint.Endpoint.{Endpoint}
 use Rattle.dcsctp_spec_lemmas.specs.spec.endpoint.Outcome.{Outcome}
 use Rattle.dcsctp_spec_lemmas.specs.spec.endpoint.Turn.{Input, Turn}
+use Rattle.dcsctp_spec_lemmas.specs.spec.queues.OwnResets.{is_open_pause}
 use Rattle.dcsctp_spec_lemmas.specs.spec.queues.SendQueue.{SendQueueState, empty_queue}
 use Rattle.dcsctp_delivery_sending.specs.Numbers.{stream_named}
 use Rattle.dcsctp_delivery_sending.specs.Log.{Message}
@@ -15,11 +16,12 @@ use Rattle.dcsctp_delivery_sending.specs.Queueing.{QueueWaits}
 use Rattle.dcsctp_delivery_directions.specs.Directions.{BeginsAtZero}
 use Rattle.dcsctp_delivery_turns.specs.Actions.{content_of_input, queued_after, BeginsAssociation, IsOpening, resets_stream, IsCall}
 
--- No message is under way, and the next one of each stream, ordered or not, has SSN 0 and MID 0.
+-- No message is under way, the next one of each stream, ordered or not, has SSN 0 and MID 0, and none is to be reset.
 pub record IsAtZero (queue : SendQueueState) : Type 0 where
   pub idle : queue.under_way ≡ None
   pub ordered : (id : ℕ) → next_numbers false (stream_named id queue.streams) ≡ (0, 0)
   pub unordered : (id : ℕ) → next_numbers true (stream_named id queue.streams) ≡ (0, 0)
+  pub unpaused : (id : ℕ) → is_open_pause (stream_named id queue.streams).pause ≡ true
 
 -- All that was queued on a stream waits after the turn, and the stream isn't to be reset, if it was so before, unless the user
 -- resets it by the turn.

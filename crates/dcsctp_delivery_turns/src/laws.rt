@@ -8,7 +8,7 @@ ghost use Rattle.dcsctp_delivery_turns.specs.Reporting.{TurnsReport};
 ghost use Rattle.dcsctp_delivery_turns.specs.Runs.{ReceiversBegin, ReceiversGoOn, SendersBegin, SendersBeginAgain, SendersGoOn};
 ghost use Rattle.dcsctp_delivery_turns.specs.Sides.{StepsGoOn, ActionsSend, ActionsReceive};
 ghost use Rattle.dcsctp_delivery_turns.specs.Tags.{TagsAreOwn, EchoesBearOwnTag, FlushesGoToPeer};
-ghost use Rattle.dcsctp_delivery_turns.specs.ToldResets.{TurnsReportResets};
+ghost use Rattle.dcsctp_delivery_turns.specs.ToldResets.{TurnsReportRequests, TurnsReportResets};
 ghost use Rattle.dcsctp_delivery_turns.specs.Unbegun.{FreshIsAtZero, StaysAtZero, UnbegunBeginsAtZero, UnbegunBeginsWaiting};
 
 /// A flush goes to the peer's tag, and a packet with data is handled only under our own tag (RFC 9260, sections 5.2.4
@@ -73,13 +73,14 @@ pub fn peers_requests_turn()
 {}
 
 /// The user is told of each reset of streams that the peer has asked for and that is performed (RFC 6525, section 5.2.2),
-/// in that turn, or before where the request came again under the next number.
+/// in that turn, or before where the request came again under the next number. And of no other, where one is performed.
 pub fn turns_tell_resets()
-    ensures { TurnsReportResets }
+    ensures told { TurnsReportResets }
+    ensures asked { TurnsReportRequests }
 {}
 
-/// A socket that has had no association has begun no message: each stream is at number 0, whatever is queued, until the
-/// first association begins, and so that one begins with number 0 on each stream (RFC 9260, section 6.5), with
+/// A socket that has had no association has begun no message: each stream is at number 0 and not to be reset, whatever
+/// is queued, until the first association begins, and so that one begins with number 0 on each stream (RFC 9260, section 6.5), with
 /// `follow_rfc` or without. All that was queued waits for it, unless the user resets streams before.
 pub fn unbegun_numbers_stay()
     ensures made { FreshIsAtZero }

@@ -65,7 +65,8 @@ pub record Promises {R : Type 0} (world : WorldView (Recording R)) : Type 0 wher
   -- association, or with `follow_rfc` one takes the place of another that the other side never had, and that not too much goes to
   -- it. With interleaving no request to reset streams may fail. A stream's ordered messages come in order within one association,
   -- if the sender has `follow_rfc` or no other association, and if messages interleave, or no reset was requested and none may be
-  -- abandoned or few are ordered. Where the sender has one association, limits no message on any stream and never calls
+  -- abandoned or few are ordered. Messages that interleave come on each side of a reset of their stream as they were sent on each
+  -- side of a call of `reset_streams`. Where the sender has one association, limits no message on any stream and never calls
   -- `reset_streams`, what is read of them is a prefix of what was sent.
   pub delivered : DeliverThroughout (options_of world) run.steps
   -- Wherever the first five acts are a handshake, they connect sockets that fit each other, whatever comes later.
