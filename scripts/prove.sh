@@ -27,15 +27,15 @@ progress() {
                 name=${line#rt: } name=${name%% *} count=$((count + 1))
                 echo "[$count/$crates] $name was proved before on this machine"
                 ;;
+            'rt: '*': its tests are proved' | 'rt: '*': trying its must-fail edits '*)
+                echo "        ${line#rt: }, $(minutes)"
+                ;;
             'rt: '*' proved')
                 name=${line#rt: } name=${name% proved} count=$((count + 1))
                 begun=$(stat -c %W "crates/$name/out" 2>/dev/null) || begun=$(date +%s)
                 echo "[$count/$crates] $name proved, $(($(date +%s) - begun)) s, $(minutes)"
                 ;;
             'rt: '*'NOT PROVED'* | 'rt: '*': NOT REFUSED'*) echo "        ${line#rt: }, $(minutes)" ;;
-            'rt: '*': its tests are proved' | 'rt: '*': trying its must-fail edits '*)
-                echo "        ${line#rt: }, $(minutes)"
-                ;;
         esac
     done
 }
