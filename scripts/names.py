@@ -106,7 +106,7 @@ def definition_faults(path: str) -> tuple[int, list[str]]:
         if fault := fault_of(found[1]):
             faults.append(f'{path}:{number}: {found[1]} {fault}')
         signature, after = found[2], number
-        while ':' not in split_outside(signature, ':')[0] and len(split_outside(signature, ':')) < 2 and after < len(lines):
+        while after < len(lines) and (len(split_outside(signature, ':')) < 2 or lines[after].lstrip().startswith('→')):
             signature, after = signature + ' ' + lines[after].strip(), after + 1
         if (given := relation_arguments(signature)) > 7:
             faults.append(f'{path}:{number}: {found[1]} takes {given} arguments')
