@@ -1,24 +1,17 @@
 -- A socket without an association keeps all that was queued on a stream, unless that is reset.
-use Rattle.std.proofs.Common.{◌≡◌, ℕ, false, ◌<◌, ◌^◌, Option, None, Some, List, ◌∷◌, length, refl, sym, ◌∙◌, ap, arith, subst, inl, inr}
-use Rattle.std.specs.List.{AllByRecursion}
-use Rattle.dcsctp_spec_lemmas.specs.types.queues.SendStreams.{stream_at}
+use Rattle.std.proofs.Common.{◌≡◌, ℕ, ◌<◌, ◌^◌, Option, None, Some, List, ◌∷◌, length, refl, sym, ◌∙◌, ap, arith, subst, inl, inr}
 use Rattle.dcsctp_spec_lemmas.specs.types.Setting.{Setting, stream_priority, stream_low_threshold, longest_message}
 use Rattle.dcsctp_spec_lemmas.specs.spec.Packet.{Content}
 use Rattle.dcsctp_spec_lemmas.specs.spec.endpoint.FlushOutcomes.{first_ask, packets_allowed}
 use Rattle.dcsctp_spec_lemmas.specs.spec.endpoint.MessageOutcomes.{Sending, sending_queued}
 use Rattle.dcsctp_spec_lemmas.specs.spec.endpoint.SettingOutcomes.{set_in_queue}
-use Rattle.dcsctp_spec_lemmas.specs.spec.queues.Incoming.{is_named}
-use Rattle.dcsctp_spec_lemmas.specs.spec.queues.OwnResets.{prepared_all}
 use Rattle.dcsctp_spec_lemmas.specs.spec.queues.SendQueue.{SendQueueState}
 use Rattle.dcsctp_spec_lemmas.specs.spec.queues.Transfer.{Transfer, EndpointQueues}
-use Rattle.dcsctp_delivery_sending.specs.Places.{at_place}
-use Rattle.dcsctp_delivery_sending.specs.Log.{Message, new_history}
+use Rattle.dcsctp_delivery_sending.specs.Log.{Message}
 use Rattle.dcsctp_delivery_sending.specs.Losing.{StillWaits, AllWaitOn}
 use Rattle.dcsctp_delivery_sending.specs.Queueing.{message_of, QueueWaits}
-use Rattle.dcsctp_delivery_sending.proofs.OpenOn.{queueing_open_on, setting_open_on, preparing_open_on, preparing_waits}
-use Rattle.dcsctp_delivery_sending.proofs.Losing.{queued_of}
+use Rattle.dcsctp_delivery_sending.proofs.OpenOn.{queueing_open_on, setting_open_on}
 use Rattle.dcsctp_delivery_sending.proofs.Places.{at_cases}
-use Rattle.dcsctp_delivery_sending.proofs.Prepared.{preparing_hold}
 use Rattle.dcsctp_delivery_sending.proofs.StillWaiting.{queued_waits, queueing_waits, setting_waits}
 use Rattle.dcsctp_delivery_turns.specs.Actions.{Ledger, Action, queues, sets, flushes, resends, resends_nothing, speaks, asks_again, acknowledges, loses, receives, receives_interleaved, forwards, forwards_interleaved, tracks, times, takes, Actions, nothing, further}
 use Rattle.dcsctp_delivery_turns.proofs.IdleFlush.{flush_still}
@@ -32,34 +25,9 @@ pub record WaitsOnStream (id : ℕ) (queued : List Message) (below : EndpointQue
 clash : {A : Type 0} (id : ℕ) (queued : List Message) (below : EndpointQueues) (transfer : Transfer) → below.transfer ≡ Some transfer → WaitsOnStream id queued below → A
 clash id queued below transfer known w = absurd (let both : Some transfer ≡ None = sym known ∙ w.none in cc)
 
--- So it is where all waits on the stream,
+-- So it is where all waits on the stream.
 pub all_on_stream : (id : ℕ) (queued : List Message) (below : EndpointQueues) → below.transfer ≡ None → QueueWaits queued below.queue → AllWaitOn id queued below.queue.streams → WaitsOnStream id queued below
 all_on_stream id queued below none waits all = record { none = none; next = λ few. waits.holds.next; all = λ few. all }
-
--- also once other streams are prepared to be reset.
-pub all_on_prepared : (id : ℕ) (queued : List Message) (ids : List ℕ) (below : EndpointQueues) → below.transfer ≡ None → AllByRecursion (λ id. id < 2 ^ 16) ids → is_named ids id ≡ false
-    → QueueWaits queued below.queue → AllWaitOn id queued below.queue.streams → WaitsOnStream id queued (record below { queue = prepared_all ids below.queue })
-all_on_prepared id queued ids below none small unnamed waits all =
-    record {
-      none = none;
-      next = λ few. (preparing_hold queued (new_history waits.floors) ids below.queue small waits.holds).next;
-      all = λ few. record {
-        waits = λ place message at on. still place message at on (all.waits place message at on);
-        unpaused = preparing_open_on id ids below.queue unnamed all.unpaused;
-      };
-    }
-  where
-    on_it : (place : ℕ) (message : Message) → at_place place queued ≡ Some message → message.stream ≡ id → (w : StillWaits below.queue.streams place) → (stream_at below.queue.streams w.q).id ≡ id
-    on_it place message at on w =
-        let was = queued_of queued (stream_at below.queue.streams w.q).id (stream_at below.queue.streams w.q).messages w.waiting (waits.holds.queue_holds.wait w.q) w.has in
-        let both : Some was.message ≡ Some message = sym was.at ∙ ap (λ (k : ℕ). at_place k queued) w.is ∙ at in
-        let same : was.message ≡ message = cc in
-        was.is.stream ∙ ap (λ (m : Message). m.stream) same ∙ on
-
-    still : (place : ℕ) (message : Message) → at_place place queued ≡ Some message → message.stream ≡ id → StillWaits below.queue.streams place → StillWaits (prepared_all ids below.queue).streams place
-    still place message at on w =
-        let left = preparing_waits id ids below.queue w.waiting unnamed (record { q = w.q; on = on_it place message at on w; has = w.has }) in
-        record { q = left.q; waiting = w.waiting; has = left.has; is = w.is }
 
 queued_on : (id now : ℕ) (sending : Sending) (queued : List Message) (below : EndpointQueues) → WaitsOnStream id queued below
     → WaitsOnStream id (message_of sending ∷ queued) (record below { queue = sending_queued now sending below.queue })
