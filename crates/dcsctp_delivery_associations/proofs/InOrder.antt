@@ -23,7 +23,7 @@ use Rattle.dcsctp_delivery_directions.proofs.Forwards.{unlimited_forward_nothing
 use Rattle.dcsctp_delivery_sending.specs.Losing.{AreUnlimited, AreUnlimitedOn}
 use Rattle.dcsctp_spec_lemmas.proofs.MarkedItemLemmas.{le_or_lt}
 use Rattle.dcsctp_delivery_order.specs.Delivered.{AreDeliveredInOrder, AreDeliveredWithoutGaps}
-use Rattle.dcsctp_delivery_order.specs.Queue.{IsOrderedOn, ComeInOrder, LeaveNoGap, Separates}
+use Rattle.dcsctp_delivery_order.specs.Queue.{IsMessageOn, IsOrderedOn, ComeInOrder, LeaveNoGap, Separates}
 use Rattle.dcsctp_delivery_order.specs.Streams.{AreDeliveredByStream, AreDeliveredOnStreams}
 use Rattle.dcsctp_delivery_order.specs.Complete.{HasNothingLeft, AreAllDelivered}
 use Rattle.dcsctp_delivery_order.proofs.PlainComplete.{plain_streams_arrive}
@@ -70,6 +70,12 @@ is_ordered marks queued id place found m on =
       ordered = f.is.unordered ∙ ap (λ (x : Message). x.is_unordered) same ∙ on.ordered;
     }
 
+is_message : (marks queued : List Message) (id place : ℕ) → AllFound marks queued → MarkAt marks place → IsMessageOn queued id place → IsMessageOn marks id place
+is_message marks queued id place found m on =
+    let f = found place m.mark m.at in
+    let same : f.message ≡ on.message = same_message (sym f.at ∙ on.at) in
+    record { message = m.mark; at = m.at; stream = f.is.stream ∙ ap (λ (x : Message). x.stream) same ∙ on.stream }
+
 order_unmarked : (marks queued : List Message) (id : ℕ) (places : List ℕ) (contents : List MessageContent) → AllFound marks queued → WereQueued marks places contents → ComeInOrder marks id places → ComeInOrder queued id places
 order_unmarked marks queued id [] contents found were come = tt
 order_unmarked marks queued id (place ∷ places) [] found were come = absurd were
@@ -91,11 +97,11 @@ separate_unmarked : (marks queued : List Message) (id index bound : ℕ) (places
 separate_unmarked marks queued id index bound [] contents found were apart = tt
 separate_unmarked marks queued id index bound (place ∷ places) [] found were apart = absurd were
 separate_unmarked marks queued id zero bound (place ∷ places) (content ∷ contents) found were apart = (
-  λ on. apart.0 (is_ordered marks queued id place found (record { mark = were.0.message; at = were.0.at }) on),
+  λ on. apart.0 (is_message marks queued id place found (record { mark = were.0.message; at = were.0.at }) on),
   separate_unmarked marks queued id zero bound places contents found were.1 apart.1,
 )
 separate_unmarked marks queued id (suc index) bound (place ∷ places) (content ∷ contents) found were apart = (
-  λ on. apart.0 (is_ordered marks queued id place found (record { mark = were.0.message; at = were.0.at }) on),
+  λ on. apart.0 (is_message marks queued id place found (record { mark = were.0.message; at = were.0.at }) on),
   separate_unmarked marks queued id index bound places contents found were.1 apart.1,
 )
 

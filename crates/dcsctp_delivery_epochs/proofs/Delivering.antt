@@ -61,16 +61,12 @@ module _ (first : ℕ) (old : Direction) (small : first < 2 ^ 32) (opened : ℕ 
   since_later : (direction : Direction) (after : Stands first direction) (asked' : ℕ → EpochBounds) (cuts' : ℕ → List Cut) (out left : ℕ) (c : Continues stands.history after.history old.queues.queue.streams direction.queues.queue.streams out left)
       → ((id : ℕ) → SendsByEpoch (length direction.queued) after.history direction.queues.queue id (asked' id)) → AreBehind direction.queues.queue.streams asked' cuts'
       → (id : ℕ) → ComeSince stands.history id (cuts' id) → ComeSince after.history id (cuts' id)
-  since_later direction after asked' cuts' out left c sends behind id since cut has n f at on ordered high =
+  since_later direction after asked' cuts' out left c sends behind id since cut has n f at on current =
       elim (behind id cut has) [
-        | inl low ↦
-            (let current : after.history.floors f.message.stream f.message.is_unordered ≤ f.mid =
-            subst (λ (b : Bool). after.history.floors f.message.stream b ≤ f.mid) (sym ordered) (subst (λ (k : ℕ). after.history.floors k false ≤ f.mid) (sym on) high) in
-            let from = (sends id).from.sent n f at on current in
-            omega (arith, low, from))
+        | inl low ↦ (let from = (sends id).from.sent n f at on current in omega (arith, low, from))
         | inr p ↦
-            since cut has n f (not_new c.more stands.history.log direction.queues.queue.streams id n f c.kept p.handed on (ap (λ (l : List Slot). at_place n l) (sym c.log) ∙ at)) on ordered
-            (subst (λ (floors : ℕ → Bool → ℕ). floors id false ≤ f.mid) c.floors high)
+            since cut has n f (not_new c.more stands.history.log direction.queues.queue.streams id n f c.kept p.handed on (ap (λ (l : List Slot). at_place n l) (sym c.log) ∙ at)) on
+            (subst (λ (floors : ℕ → Bool → ℕ). floors f.message.stream f.message.is_unordered ≤ f.mid) c.floors current)
       ]
 
   -- a step in which no reset ends

@@ -13,6 +13,7 @@ use Rattle.dcsctp_delivery_sending.specs.Log.{Piece, History}
 use Rattle.dcsctp_delivery_sending.specs.Numbers.{stream_named, is_handed_out, IsCurrent, IsUnderWayKept, CountsMessages}
 use Rattle.dcsctp_delivery_sending.specs.Queueing.{floors_raised}
 use Rattle.dcsctp_delivery_sending.proofs.StreamsNamed.{found_mapped}
+use Rattle.dcsctp_delivery_order.proofs.Raised.{none_current_now}
 use Rattle.dcsctp_delivery_epochs.specs.Sending.{AllFrom, EpochBounds, newest_ended, asked_ended, is_open, HaltsIfAsked, SendsByEpoch, IsKnown}
 use Rattle.dcsctp_delivery_epochs.proofs.Named.{IsUnmoved, unmoved}
 
@@ -50,13 +51,7 @@ committing_by_epoch queue history count id asked counts kept e = go (committing_
   where
     -- nothing that was sent on a stream that is handed out is current
     none_current : is_handed_out (stream_named id queue.streams).pause ≡ true → (n : ℕ) (f : Piece) → at_place n history.log ≡ Some (Some f) → f.message.stream ≡ id → IsCurrent (floors_raised queue.streams history) f → ⊥
-    none_current handed n f at on is =
-        let below = counts.below n f at in
-        let few = counts.few f.message.stream f.message.is_unordered in
-        let high : 2 ^ 32 * (history.floors f.message.stream f.message.is_unordered + length history.log + 1) ≤ f.mid =
-        subst (λ (b : Bool). (if b then 2 ^ 32 * (history.floors f.message.stream f.message.is_unordered + length history.log + 1) else history.floors f.message.stream f.message.is_unordered) ≤ f.mid)
-        (ap (λ (k : ℕ). is_handed_out (stream_named k queue.streams).pause) on ∙ handed) is in
-        omega (arith, below, few, high)
+    none_current = none_current_now history queue.streams queue.under_way counts id
 
     ending : (newest : Option ℕ) → (asked id).newest ≡ newest → is_handed_out (stream_named id queue.streams).pause ≡ true → (stream_named id (queue_committed queue).streams).messages ≡ (stream_named id queue.streams).messages
         → (stream_named id (queue_committed queue).streams).pause ≡ Open → HaltsIfAsked newest history queue id → SendsByEpoch count (floors_raised queue.streams history) (queue_committed queue) id (newest_ended (asked id))

@@ -9,9 +9,10 @@ use Rattle.dcsctp_spec.specs.queues.OwnResets.{is_open_pause}
 use Rattle.dcsctp_spec.specs.queues.Reassembly.{ReassemblyState, names_stream, EndsDeferral}
 use Rattle.dcsctp_delivery_sending.specs.Log.{Message, sent_messages}
 use Rattle.dcsctp_delivery_sending.specs.Numbers.{is_handed_out, stream_named}
-use Rattle.dcsctp_delivery_sending.specs.Places.{HasEntry}
+use Rattle.dcsctp_delivery_sending.specs.Places.{HasEntry, at_place}
 use Rattle.dcsctp_delivery_receiving.specs.Clear.{IsOwn}
 use Rattle.dcsctp_delivery_receiving.specs.Ready.{WereQueued}
+use Rattle.dcsctp_delivery_receiving.specs.Rows.{Spent}
 use Rattle.dcsctp_delivery_directions.specs.Directions.{Direction, is_reset_reached}
 use Rattle.dcsctp_delivery_directions.proofs.Performing.{newest_of}
 use Rattle.dcsctp_delivery_directions.proofs.Standing.{Stands}
@@ -92,9 +93,9 @@ module _ (first : ℕ) (old : Direction) (small : first < 2 ^ 32) (opened : ℕ 
           go None same e = absurd (cc)
           go (Some other) same e = let one : other ≡ place = cc in subst (λ (k : ℕ). HaltsBefore stands.history old.queues.queue id k) one (e.stops shut)
 
-      recut_stream : (id : ℕ) (all waits : List ℕ) (stream : StreamModel) → length all ≡ index → IsOrderedOrReset (watch_of cuts id) (performed.quiet id) (sent_messages old.queued stands.history) id all waits stream
+      recut_stream : (id : ℕ) (got all waits : List ℕ) (stream : StreamModel) → length all ≡ index → ((p : ℕ) → HasEntry p all → Spent stands.history.log got p) → IsOrderedOrReset (watch_of cuts id) (performed.quiet id) (sent_messages old.queued stands.history) id all waits stream
           → IsOrderedOrReset (watch_of added id) (performed.quiet id) (sent_messages old.queued stands.history) id all waits stream
-      recut_stream id all waits stream size ordered = go (names_stream newest.reset.streams id) refl (asked id).newest refl
+      recut_stream id got all waits stream size spent ordered = go (names_stream newest.reset.streams id) refl (asked id).newest refl
         where
           go : (b : Bool) → names_stream newest.reset.streams id ≡ b → (o : Option ℕ) → (asked id).newest ≡ o
               → IsOrderedOrReset (record { is_gapless = false; cuts = if b then cut_added index o (cuts id) else cuts id }) (performed.quiet id) (sent_messages old.queued stands.history) id all waits stream
@@ -107,7 +108,14 @@ module _ (first : ℕ) (old : Direction) (small : first < 2 ^ 32) (opened : ℕ 
               let cut : Separates old.queued id index place all =
               subst (λ (k : ℕ). Separates old.queued id k place all) size
               (all_separate old.queued id place all
-              (λ p has on. (let (mid, sent) = both.0.sent p has on in let low = its.sent sent.offset sent.piece sent.at sent.stream in let same = sent.is in omega (arith, low, same)))) in
+              (λ p has on. (
+              let sent = spent p has in
+              let one : Some sent.head.message ≡ Some on.message = sym (stands.queues.cut.pieces sent.offset sent.head sent.at_head).at ∙ ap (λ (k : ℕ). at_place k old.queued) sent.is ∙ on.at in
+              let message : sent.head.message ≡ on.message = cc in
+              let low = its.sent sent.offset sent.head sent.at_head (ap (λ (m : Message). m.stream) message ∙ on.stream) in
+              let same = sent.is in
+              omega (arith, low, same)
+              ))) in
               subst (λ (b : Bool). IsOrderedOrReset (record { is_gapless = false; cuts = record { index = index; place = place } ∷ cuts id }) b (sent_messages old.queued stands.history) id all waits stream) (sym (named_quiet id names)) (
                 both.0,
                 λ c has. elim has [
@@ -120,9 +128,9 @@ module _ (first : ℕ) (old : Direction) (small : first < 2 ^ 32) (opened : ℕ 
       recut_incoming got base o =
           record {
             holds = o.holds;
-            order = λ id counts. recut_stream id (performed.places ++ o.holds.places) (o.holds.waits id) (stream_on id new.incoming.streams)
+            order = λ id counts. recut_stream id got (performed.places ++ o.holds.places) (o.holds.waits id) (stream_on id new.incoming.streams)
                 (length-append performed.places o.holds.places
-                ∙ (let one = were_length old.queued performed.places old.read performed.were in let two = were_length old.queued o.holds.places new.incoming.ready o.holds.were_queued in omega (arith, one, two))) (o.order id counts);
+                ∙ (let one = were_length old.queued performed.places old.read performed.were in let two = were_length old.queued o.holds.places new.incoming.ready o.holds.were_queued in omega (arith, one, two))) o.holds.spent (o.order id counts);
           }
 
       recut_reassembles : (got : List ℕ) → ReassemblesInOrder (watch_of cuts) (sent_messages old.queued stands.history) performed.quiet first got performed.places new.incoming

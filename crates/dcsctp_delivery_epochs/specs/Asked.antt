@@ -10,8 +10,8 @@ use Rattle.dcsctp_delivery_directions.specs.Directions.{PerformedReset, Directio
 use Rattle.dcsctp_delivery_order.specs.Queue.{Separates}
 use Rattle.dcsctp_delivery_order.specs.Delivered.{AreDeliveredInOrder}
 
--- The reset was asked for when so many messages were queued. Of the ordered messages of the stream the first ones, up to this index,
--- were queued before, and none of the others.
+-- The reset was asked for when so many messages were queued. Of the messages of the stream the first ones, up to this index, were
+-- queued before, and none of the others.
 pub record IsAskedCut (asks : ℕ → ℕ → Bool) (queued : List Message) (id index : ℕ) (places : List ℕ) : Type 0 where
   pub place : ℕ
   pub asked : asks id place ≡ true

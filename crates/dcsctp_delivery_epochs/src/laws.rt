@@ -11,8 +11,8 @@ pub fn directions_send_by_epoch()
     ensures { DirectionsSendByEpoch }
 {}
 
-/// With interleaving each reset of a stream that the receiver performs separates the ordered messages of the stream:
-/// those that were read or are ready then were queued before the reset was asked for, and those that come later since
+/// With interleaving each reset of a stream that the receiver performs separates the messages of the stream, ordered or
+/// not: those that were read or are ready then were queued before the reset was asked for, and those that come later since
 /// (RFC 6525, section 5.2.2). A request that is sent again under another number, and performed twice, separates them
 /// twice at the same message.
 pub fn directions_deliver_by_epoch()
@@ -20,8 +20,8 @@ pub fn directions_deliver_by_epoch()
 {}
 
 /// With interleaving each reset of a stream that the receiver performs was asked for by the sender's user (RFC 6525,
-/// section 5.1.2): of the ordered messages of the stream those that were read or are ready then were queued before
-/// that, and those that come later since.
+/// section 5.1.2): of the messages of the stream, ordered or not, those that were read or are ready then were queued
+/// before that, and those that come later since.
 pub fn directions_cut_as_asked()
     ensures { DirectionsCutAsAsked }
 {}

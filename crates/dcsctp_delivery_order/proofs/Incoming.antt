@@ -13,7 +13,7 @@ use Rattle.dcsctp_delivery_receiving.specs.Rows.{AreRows}
 use Rattle.dcsctp_delivery_receiving.specs.Ready.{IsOfStream, unordered_base, AreDistinct, WereQueued, held_messages}
 use Rattle.dcsctp_delivery_receiving.proofs.Distinct.{has_right, appended, distinct_left}
 use Rattle.dcsctp_delivery_receiving.proofs.Skipping.{rows_filter, new_rows, holds_renewed}
-use Rattle.dcsctp_delivery_order.specs.Queue.{IsOrderedOn, ComeInOrder, AreSeparated}
+use Rattle.dcsctp_delivery_order.specs.Queue.{IsMessageOn, IsOrderedOn, ComeInOrder, AreSeparated}
 use Rattle.dcsctp_delivery_order.specs.Order.{IsSentAs, AreReadAs, IsBetweenResets}
 use Rattle.dcsctp_delivery_order.specs.Reading.{CountsFromZero, Watch, uncut, ComeSince}
 use Rattle.dcsctp_delivery_order.specs.Incoming.{IsOrderedOrReset, HoldsOrdered, IncomingOrdered, ReadsInOrder, IsWithin, first_ready}
@@ -158,6 +158,20 @@ module _ (queued more : List Message) (history later : History) (id : ℕ) (with
         | inr t ↦ queued_so places contents were.1 place t on
       ]
 
+  -- of the stream, ordered or not
+  message_so : (places : List ℕ) (contents : List MessageContent) → WereQueued queued places contents → (place : ℕ) → HasEntry place places → IsMessageOn (more ++ queued) id place → IsMessageOn queued id place
+  message_so [] contents were place has on = absurd has
+  message_so (p ∷ places) [] were place has on = absurd were
+  message_so (p ∷ places) (c ∷ contents) were place has on =
+      elim has [
+        | inl e ↦
+            (let at : at_place place queued ≡ Some were.0.message = ap (λ (k : ℕ). at_place k queued) e ∙ were.0.at in
+            let both : Some on.message ≡ Some were.0.message = sym on.at ∙ at_more more queued place were.0.message at in
+            let same : were.0.message ≡ on.message = cc in
+            record { message = on.message; at = at ∙ ap (λ (m : Message). Some m) same; stream = on.stream })
+        | inr t ↦ message_so places contents were.1 place t on
+      ]
+
   pub in_order_more : (places : List ℕ) (contents : List MessageContent) → WereQueued queued places contents → ComeInOrder queued id places → ComeInOrder (more ++ queued) id places
   in_order_more [] contents were are = tt
   in_order_more (p ∷ places) [] were are = absurd were
@@ -195,7 +209,7 @@ growing_in_order watch queued more history later false id all waits contents str
           let is = o.filled none number low less in
           record { place = is.place; has = is.has; is = record { mid = is.is.mid; sent = sent_more queued more history later id within is.place is.is.mid is.is.sent; counted = (let counted = is.is.counted in let same = same_floor queued more history later id within in omega (arith, counted, same)) } }
           );
-      separated = separated_queued queued (more ++ queued) id watch.cuts all (queued_so queued more history later id within all contents were) o.separated;
+      separated = separated_queued queued (more ++ queued) id watch.cuts all (message_so queued more history later id within all contents were) o.separated;
       since = fresh refl o.since;
     }
 growing_in_order watch queued more history later true id all waits contents stream within fresh were counts ordered =
@@ -205,5 +219,5 @@ growing_in_order watch queued more history later true id all waits contents stre
         in_order = in_order_more queued more history later id within all contents were o.in_order;
         sent = λ place has on. (let (mid, sent) = o.sent place has (queued_so queued more history later id within all contents were place has on) in (mid, sent_more queued more history later id within place mid sent));
       },
-      separated_queued queued (more ++ queued) id watch.cuts all (queued_so queued more history later id within all contents were) both.1,
+      separated_queued queued (more ++ queued) id watch.cuts all (message_so queued more history later id within all contents were) both.1,
     )

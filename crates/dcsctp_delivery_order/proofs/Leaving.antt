@@ -13,7 +13,7 @@ use Rattle.dcsctp_delivery_receiving.specs.Ready.{IsOn, AreDistinct, WasQueued, 
 use Rattle.dcsctp_delivery_receiving.proofs.Distinct.{appended, has_left, has_right, distinct_with}
 use Rattle.dcsctp_delivery_receiving.proofs.SpentRows.{of_message, IsOfMessage}
 use Rattle.dcsctp_delivery_receiving.proofs.Waiting.{OfStream, both_queued, renamed, wait_spent, Split, split_due}
-use Rattle.dcsctp_delivery_order.specs.Queue.{IsOrderedOn, AreSeparated}
+use Rattle.dcsctp_delivery_order.specs.Queue.{IsMessageOn, IsOrderedOn, Cut, AreSeparated}
 use Rattle.dcsctp_delivery_order.specs.Rising.{AscendFrom, DeliversRow, IsAhead, ready_with_part}
 use Rattle.dcsctp_delivery_order.specs.Order.{IsReadAs, IsReadBelow, AreReadAs, AreFilled}
 use Rattle.dcsctp_delivery_order.specs.Reading.{CountsFromZero, IsInReach, OrderedStream, Watch}
@@ -64,11 +64,15 @@ alike_ordered watch queued history id all waits old new next waiting o =
       since = o.since;
     }
 
--- messages of other streams, or unordered ones
-pub others_where : (watch : Watch) (queued : List Message) (history : History) (quiet : Bool) (id : ℕ) (all waits more : List ℕ) (stream : StreamModel) → ((place : ℕ) → HasEntry place more → IsOrderedOn queued id place → ⊥)
+-- an ordered message of the stream is one of it
+on_stream : (queued : List Message) (id place : ℕ) → IsOrderedOn queued id place → IsMessageOn queued id place
+on_stream queued id place on = record { message = on.message; at = on.at; stream = on.stream }
+
+-- messages of other streams
+pub others_where : (watch : Watch) (queued : List Message) (history : History) (quiet : Bool) (id : ℕ) (all waits more : List ℕ) (stream : StreamModel) → ((place : ℕ) → HasEntry place more → IsMessageOn queued id place → ⊥)
     → IsOrderedOrReset watch quiet (sent_messages queued history) id all waits stream → IsOrderedOrReset watch quiet (sent_messages queued history) id (all ++ more) waits stream
-others_where watch queued history false id all waits more stream none o = record { order = others_stay queued history id all waits more stream none o.order; reach = o.reach; filled = λ is. more_filled history id stream.next all more (o.filled is); separated = separated_others queued id watch.cuts all more none o.separated; since = o.since }
-others_where watch queued history true id all waits more stream none between = (others_between queued history id all more none between.0, separated_others queued id watch.cuts all more none between.1)
+others_where watch queued history false id all waits more stream none o = record { order = others_stay queued history id all waits more stream (λ place has on. none place has (on_stream queued id place on)) o.order; reach = o.reach; filled = λ is. more_filled history id stream.next all more (o.filled is); separated = separated_others queued id watch.cuts all more none o.separated; since = o.since }
+others_where watch queued history true id all waits more stream none between = (others_between queued history id all more (λ place has on. none place has (on_stream queued id place on)) between.0, separated_others queued id watch.cuts all more none between.1)
 
 -- a place on the stream
 abbrev pub IsOnIt : List Message → ℕ → ℕ → Type 0
@@ -262,8 +266,8 @@ module _ (watch : Watch) (queued : List Message) (history : History) (got : List
   pub apart_left : (all places waits : List ℕ) (on id p : ℕ) (part : PartModel) (new : StreamModel) (before after : List MessageContent) (outcome : Assembly) (taken : Taken) → id ≡ on
       → WereQueued queued places before → WaitQueued queued history got id waits new.waiting → MakesQueued queued history.log got (OfStream id) p outcome → AreDistinct (all ++ waits) → (HasEntry p (all ++ waits) → ⊥)
       → (CountsFromZero history id → OrderedStream watch queued history id all waits new) → (CountsFromZero history id → IsOrderedOn queued id p → ⊥)
-      → UnorderedOutcome part (delivered_as on) before outcome taken after → LeavesOrder all places id new after
-  apart_left all places waits on id p part new before after outcome taken same were wait makes once fresh ordered other does = go outcome makes does
+      → (CountsFromZero history id → (cut : Cut) → HasEntry cut watch.cuts → cut.place ≤ p) → UnorderedOutcome part (delivered_as on) before outcome taken after → LeavesOrder all places id new after
+  apart_left all places waits on id p part new before after outcome taken same were wait makes once fresh ordered other since does = go outcome makes does
     where
       none_more : CountsFromZero history id → OrderedStream watch queued history id (all ++ []) waits new
       none_more counts = subst (λ (l : List ℕ). OrderedStream watch queued history id l waits new) (sym (append-nil all)) (ordered counts)
@@ -280,6 +284,7 @@ module _ (watch : Watch) (queued : List Message) (history : History) (got : List
             order = others_stay queued history id all waits (p ∷ []) new (not_ordered counts) (ordered counts).order;
             reach = (ordered counts).reach;
             filled = λ is. more_filled history id new.next all (p ∷ []) ((ordered counts).filled is);
-            separated = separated_others queued id watch.cuts all (p ∷ []) (not_ordered counts) (ordered counts).separated;
+            separated = separated_more queued id watch.cuts all (p ∷ [])
+                (λ place h cut has. elim h [ inl e ↦ subst (λ (k : ℕ). cut.place ≤ k) (sym e) (since counts cut has) | inr t ↦ absurd t ]) (ordered counts).separated;
             since = (ordered counts).since;
           })

@@ -1,16 +1,17 @@
 -- A reset ends: the messages of the streams that were handed out are numbered from 0 again, and these
 -- streams are in order, as before they were quiet.
-use Rattle.std.proofs.Common.{◌≡◌, ℕ, Bool, true, false, ◌<◌, ◌+◌, ◌*◌, ◌^◌, List, [], ◌∷◌, ◌++◌, length, refl, sym, ◌∙◌, arith, subst, inl, inr}
-use Rattle.std.specs.Prelude.{◌⊎◌, if◌then◌else◌, Some}
+use Rattle.std.proofs.Common.{◌≡◌, ℕ, Bool, true, false, ◌<◌, ◌≤◌, ◌+◌, ◌*◌, ◌^◌, List, [], ◌∷◌, ◌++◌, length, refl, sym, ◌∙◌, ap, arith, subst, inl, inr}
+use Rattle.std.specs.Prelude.{◌⊎◌, if◌then◌else◌, Option, Some}
 use Rattle.dcsctp_spec_lemmas.specs.spec.queues.Runs.{WholeModel}
 use Rattle.dcsctp_spec_lemmas.specs.spec.queues.IncomingStreams.{StreamModel, new_stream}
 use Rattle.dcsctp_spec_lemmas.specs.spec.queues.Incoming.{stream_on}
 use Rattle.dcsctp_spec_lemmas.specs.spec.queues.Reassembly.{ReassemblyState, waiting_of}
 use Rattle.dcsctp_spec_lemmas.specs.types.queues.SendStreams.{Stream}
+use Rattle.dcsctp_spec_lemmas.specs.types.declared.sending.UnderWay.{UnderWay}
 use Rattle.dcsctp_spec_lemmas.specs.spec.queues.Tracker.{TrackerState}
 use Rattle.dcsctp_delivery_sending.specs.Places.{at_place}
 use Rattle.dcsctp_delivery_sending.specs.Log.{Message, Piece, History, IsLogOfPieces, sent_messages}
-use Rattle.dcsctp_delivery_sending.specs.Numbers.{AreOfKind, is_handed_out, stream_named}
+use Rattle.dcsctp_delivery_sending.specs.Numbers.{AreOfKind, CountsMessages, IsCurrent, is_handed_out, stream_named}
 use Rattle.dcsctp_delivery_sending.specs.Queueing.{floors_raised}
 use Rattle.dcsctp_delivery_receiving.specs.Clear.{IsClear, IsOver, Unsent}
 use Rattle.dcsctp_delivery_receiving.specs.Ready.{WaitQueued, HoldsIncoming}
@@ -24,9 +25,25 @@ use Rattle.dcsctp_delivery_order.proofs.Order.{resets_stay}
 use Rattle.dcsctp_delivery_order.proofs.Received.{loud_by}
 use Rattle.dcsctp_delivery_order.proofs.Unsent.{unsent_ordered}
 
+-- ---- a stream whose floor is raised
+
+-- Nothing that was sent on it is current then.
+pub none_current_now : (history : History) (streams : List Stream) (under_way : Option UnderWay) → CountsMessages history streams under_way → (id : ℕ) → is_handed_out (stream_named id streams).pause ≡ true → (n : ℕ) (f : Piece)
+    → at_place n history.log ≡ Some (Some f) → f.message.stream ≡ id → IsCurrent (floors_raised streams history) f → ⊥
+none_current_now history streams under_way counts id handed n f at on is =
+    let below = counts.below n f at in
+    let few = counts.few f.message.stream f.message.is_unordered in
+    let high : 2 ^ 32 * (history.floors f.message.stream f.message.is_unordered + length history.log + 1) ≤ f.mid =
+    subst (λ (b : Bool). (if b then 2 ^ 32 * (history.floors f.message.stream f.message.is_unordered + length history.log + 1) else history.floors f.message.stream f.message.is_unordered) ≤ f.mid)
+    (ap (λ (k : ℕ). is_handed_out (stream_named k streams).pause) on ∙ handed) is in
+    omega (arith, below, few, high)
+
 -- ---- a stream whose floor stays
 
-module _ (queued : List Message) (history : History) (floors : ℕ → Bool → ℕ) (id : ℕ) (same : floors id false ≡ history.floors id false) where
+module _ (queued : List Message) (history : History) (floors : ℕ → Bool → ℕ) (id : ℕ) (same_each : (b : Bool) → floors id b ≡ history.floors id b) where
+  same : floors id false ≡ history.floors id false
+  same = same_each false
+
   abbrev now : History
   now = record history { floors = floors }
 
@@ -58,14 +75,15 @@ module _ (queued : List Message) (history : History) (floors : ℕ → Bool → 
             }
             );
         separated = o.separated;
-        since = λ cut has n f at on is high. o.since cut has n f at on is (omega (arith, high, same));
+        since = λ cut has n f at on high. o.since cut has n f at on (subst (λ (k : ℕ). k ≤ f.mid) (ap (λ (k : ℕ). floors k f.message.is_unordered) on ∙ same_each f.message.is_unordered ∙ ap (λ (k : ℕ). history.floors k f.message.is_unordered) (sym on)) high);
       }
 
 -- ---- all streams
 
 module _ (watch : ℕ → Watch) (queued : List Message) (history : History) (streams : List Stream) (cut : IsLogOfPieces queued history.log) (kinds : AreOfKind true history.log) (counts : (id : ℕ) → CountsFromZero history id) (quiet : ℕ → Bool)
     (silent : (id : ℕ) → quiet id ≡ true → is_handed_out (stream_named id streams).pause ≡ true) (first cumulative : ℕ) (reassembly : ReassemblyState)
-    (out : (id : ℕ) → is_handed_out (stream_named id streams).pause ≡ true → Unsent history.log id ⊎ (IsOver history first cumulative id × IsClear id reassembly)) where
+    (out : (id : ℕ) → is_handed_out (stream_named id streams).pause ≡ true → Unsent history.log id ⊎ (IsOver history first cumulative id × IsClear id reassembly))
+    (none_current : (id : ℕ) → is_handed_out (stream_named id streams).pause ≡ true → (n : ℕ) (f : Piece) → at_place n history.log ≡ Some (Some f) → f.message.stream ≡ id → IsCurrent (floors_raised streams history) f → ⊥) where
   abbrev raised : History
   raised = floors_raised streams history
 
@@ -106,7 +124,7 @@ module _ (watch : ℕ → Watch) (queued : List Message) (history : History) (st
             reach = record { from = omega arith; up_to = omega arith };
             filled = λ is number low less. absurd (omega (arith, low, less));
             separated = separated_where (watch id) queued history (quiet id) id (read ++ o.holds.places) (o.holds.waits id) (stream_on id reassembly.incoming.streams) (o.order id (counts id));
-            since = λ cut has n f at on is high. absurd (let low = above id handed n f at on is in omega (arith, low, high));
+            since = λ cut has n f at on current. absurd (none_current id handed n f at on current);
           }))
 
       by_pause : (id : ℕ) (b : Bool) → is_handed_out (stream_named id streams).pause ≡ b → OrderedStream (watch id) queued raised id (read ++ o.holds.places) (o.holds.waits id) (stream_on id reassembly.incoming.streams)
@@ -117,9 +135,9 @@ module _ (watch : ℕ → Watch) (queued : List Message) (history : History) (st
       ]
       by_pause id false shut =
           let loud : quiet id ≡ false = loud_by quiet id (λ is. (let clash : true ≡ false = sym (silent id is) ∙ shut in cc)) in
-          let same : raised.floors id false ≡ history.floors id false =
-          subst (λ (b : Bool). (if b then 2 ^ 32 * (history.floors id false + length history.log + 1) else history.floors id false) ≡ history.floors id false) (sym shut) refl in
-          ordered_now queued history raised.floors id same (watch id) (read ++ o.holds.places) (o.holds.waits id) (stream_on id reassembly.incoming.streams)
+          let same_each : ((b : Bool) → raised.floors id b ≡ history.floors id b) =
+          λ b. subst (λ (c : Bool). (if c then 2 ^ 32 * (history.floors id b + length history.log + 1) else history.floors id b) ≡ history.floors id b) (sym shut) refl in
+          ordered_now queued history raised.floors id same_each (watch id) (read ++ o.holds.places) (o.holds.waits id) (stream_on id reassembly.incoming.streams)
           (subst (λ (b : Bool). IsOrderedOrReset (watch id) b (sent_messages queued history) id (read ++ o.holds.places) (o.holds.waits id) (stream_on id reassembly.incoming.streams)) loud (o.order id (counts id)))
 
   pub raised_in_order : (read : List ℕ) (tracker : TrackerState) → HasReceivedInOrder watch (sent_messages queued history) quiet first read tracker reassembly → HasReceivedInOrder watch (sent_messages queued raised) none_quiet first read tracker reassembly

@@ -200,7 +200,7 @@ module _ (watch : ℕ → Watch) (queued : List Message) (history : History) (qu
             (apart_left (watch chunk.stream) queued history now all o.holds.places (o.holds.waits chunk.stream) (streams chunk.stream).id chunk.stream bears.piece.place (data_part chunk place number) (later chunk.stream) ready after does.ordered.outcome taken
             (sym here.rows.is) o.holds.were_queued (subst (λ (l : List WholeModel). WaitQueued queued history now chunk.stream (o.holds.waits chunk.stream) l) (sym does.others.2) here_wait)
             (renamed queued history now (IsOn history chunk.stream) (OfStream chunk.stream) (λ f k named'. named'.0) bears.piece.place does.ordered.outcome rows.1) (o.holds.once chunk.stream) (fresh chunk.stream)
-            (same_order (later chunk.stream) does.others.1 does.others.2) (λ counts on. never counts e) does.ordered.does)
+            (same_order (later chunk.stream) does.others.1 does.others.2) (λ counts on. never counts e) (λ counts. absurd (never counts e)) does.ordered.does)
 
     -- one of I-DATA
     in_order : (place number : ℕ) (later : ℕ → StreamModel) (runs : List RunModel) (after : List MessageContent) (taken : Taken) → IsPiecePlaced (ordered_base base) bears.offset bears.piece number place → IsOn history chunk.stream bears.piece number
@@ -239,7 +239,8 @@ module _ (watch : ℕ → Watch) (queued : List Message) (history : History) (qu
         (apart_left (watch chunk.stream) queued history now all o.holds.places (o.holds.waits chunk.stream) (streams chunk.stream).id chunk.stream bears.piece.place (data_part chunk place number) (later chunk.stream) ready after takes.unordered.outcome taken
         (sym here.rows.is) o.holds.were_queued (subst (λ (l : List WholeModel). WaitQueued queued history now chunk.stream (o.holds.waits chunk.stream) l) (sym takes.others.2) here_wait)
         (renamed queued history now (IsApart history chunk.stream) (OfStream chunk.stream) (λ f k named'. named'.0) bears.piece.place takes.unordered.outcome rows.1) (o.holds.once chunk.stream) (fresh chunk.stream)
-        (same_order (later chunk.stream) takes.others.1 takes.others.2) (λ counts on. not_ordered unordered_is on) takes.unordered.does)
+        (same_order (later chunk.stream) takes.others.1 takes.others.2) (λ counts on. not_ordered unordered_is on)
+        (λ counts cut' has. (here_order counts).since cut' has bears.offset bears.piece bears.at named.0 (named.1 (counts.kinds bears.offset bears.piece bears.at)).2) takes.unordered.does)
 
     -- an unordered message of DATA that is whole, or a part of one
     makes_on : (place number : ℕ) (outcome : Assembly) → number ≡ chunk.stream → MakesQueued queued history.log now IsOfStream place outcome → IsOfMessage number outcome → MakesQueued queued history.log now (OfStream chunk.stream) place outcome
@@ -255,7 +256,7 @@ module _ (watch : ℕ → Watch) (queued : List Message) (history : History) (qu
         subst (λ (f : ℕ → StreamModel). HoldsOrdered watch (sent_messages queued history) quiet now base read (held_messages f runs after)) (sym same)
         (holds_then chunk.stream aloud streams runs after here_rows rows (λ other ne. refl)
         (apart_left (watch chunk.stream) queued history now all o.holds.places (o.holds.waits chunk.stream) chunk.stream chunk.stream bears.piece.place (data_part chunk tsn_number chunk.stream) (streams chunk.stream) ready after outcome taken
-        refl o.holds.were_queued here_wait makes (o.holds.once chunk.stream) (fresh chunk.stream) (same_order (streams chunk.stream) refl refl) (λ counts on. is_data counts kind) does))
+        refl o.holds.were_queued here_wait makes (o.holds.once chunk.stream) (fresh chunk.stream) (same_order (streams chunk.stream) refl refl) (λ counts on. is_data counts kind) (λ counts. absurd (is_data counts kind)) does))
 
   by_numbering : (tsn_number : ℕ) (numbering : Numbering) (chunk : ChunkModel) (old new : IncomingModel) → chunk.numbering ≡ numbering
       → (bears : BearsPiece history base tsn_number chunk) → IsNumbered bears.piece numbering → (HasEntry bears.offset got → ⊥) → quiet chunk.stream ≡ false → IncomingOrdered watch (sent_messages queued history) quiet got base read old → TakesChunk tsn_number numbering chunk old new → IncomingOrdered watch (sent_messages queued history) quiet (bears.offset ∷ got) base read new

@@ -1,6 +1,6 @@
 -- Each step of a direction that ends no reset leaves what was received in order; and so does the end
 -- of a reset.
-use Rattle.std.proofs.Common.{◌≡◌, ℕ, zero, suc, true, false, ◌<◌, ◌≤◌, ◌+◌, ◌-◌, ◌%◌, ◌^◌, List, [], ◌∷◌, ◌++◌, length, sym, ◌∙◌, arith, subst, inl, inr}
+use Rattle.std.proofs.Common.{◌≡◌, ℕ, zero, suc, true, false, ◌<◌, ◌≤◌, ◌+◌, ◌-◌, ◌%◌, ◌^◌, List, [], ◌∷◌, ◌++◌, length, sym, ◌∙◌, arith, subst, Bool, inl, inr}
 use Rattle.std.specs.Prelude.{◌⊎◌}
 use Rattle.std.proofs.lemmas.List.{append-nil}
 use Rattle.dcsctp_spec_lemmas.specs.types.declared.arrivals.SkippedTo.{SkippedTo}
@@ -35,10 +35,11 @@ use Rattle.dcsctp_delivery_order.specs.Incoming.{NoneLimitedOn}
 use Rattle.dcsctp_delivery_order.specs.Received.{none_quiet, HasReceivedInOrder}
 use Rattle.dcsctp_delivery_order.proofs.Follows.{counts_from_zero}
 use Rattle.dcsctp_delivery_order.proofs.Quiet.{AreSilent, Arrives, arrives_later, performing_arrives}
-use Rattle.dcsctp_delivery_order.proofs.Raised.{raised_in_order}
+use Rattle.dcsctp_delivery_order.proofs.Raised.{none_current_now, raised_in_order}
 use Rattle.dcsctp_delivery_order.proofs.Received.{tracked_in_order, deferring_in_order, received_in_order, forwarded_in_order, nothing_in_order}
 use Rattle.dcsctp_delivery_order.proofs.Taken.{takes_in_order}
 use Rattle.dcsctp_delivery_sending.specs.Log.{sent_messages}
+use Rattle.dcsctp_delivery_sending.specs.Numbers.{CountsByKind}
 
 module _ (watch : ℕ → Watch) (first : ℕ) (old : Direction) (small : first < 2 ^ 32) (s : Stands first old) (free : NoneLimitedOn watch s.history.log) (little : length s.history.log < 2 ^ 31) (interleaved : old.queues.queue.is_interleaved ≡ true) where
   abbrev arrived : Arrived first s.history old
@@ -182,6 +183,7 @@ module _ (watch : ℕ → Watch) (first : ℕ) (old : Direction) (small : first 
         once = a.once;
         quiet = none_quiet;
         received = raised_in_order watch old.queued s.history old.queues.queue.streams s.queues.cut kinds counts a.quiet (λ id is. (a.silent id is).handed) first old.tracker.cumulative old.reassembly
-            (is_over first old s one (arrived.cleared interleaved performed)) a.places old.tracker a.received;
+            (is_over first old s one (arrived.cleared interleaved performed))
+            (none_current_now s.history old.queues.queue.streams old.queues.queue.under_way (subst (λ (b : Bool). CountsByKind b s.history old.queues.queue.streams old.queues.queue.under_way) interleaved s.queues.numbers.counts)) a.places old.tracker a.received;
         silent = λ id is. absurd (cc);
       }

@@ -18,6 +18,12 @@ pub record IsOrderedOn (queued : List Message) (id place : ℕ) : Type 0 where
   pub stream : message.stream ≡ id
   pub ordered : message.is_unordered ≡ false
 
+-- The message of this place is one of the stream.
+pub record IsMessageOn (queued : List Message) (id place : ℕ) : Type 0 where
+  pub message : Message
+  pub at : at_place place queued ≡ Some message
+  pub stream : message.stream ≡ id
+
 -- Ordered messages of the stream come in the order in which they were queued.
 abbrev pub ComeInOrder : List Message → ℕ → List ℕ → Type 0
 ComeInOrder queued id [] = Unit {0}
@@ -37,11 +43,11 @@ pub record Cut : Type 0 where
   pub index : ℕ
   pub place : ℕ
 
--- Of the ordered messages of the stream the first ones, up to this index, were queued before this place, and none of the others.
+-- Of the messages of the stream the first ones, up to this index, were queued before this place, and none of the others.
 abbrev pub Separates : List Message → ℕ → ℕ → ℕ → List ℕ → Type 0
 Separates queued id index bound [] = Unit {0}
-Separates queued id zero bound (place ∷ places) = (IsOrderedOn queued id place → bound ≤ place) × Separates queued id zero bound places
-Separates queued id (suc index) bound (place ∷ places) = (IsOrderedOn queued id place → place < bound) × Separates queued id index bound places
+Separates queued id zero bound (place ∷ places) = (IsMessageOn queued id place → bound ≤ place) × Separates queued id zero bound places
+Separates queued id (suc index) bound (place ∷ places) = (IsMessageOn queued id place → place < bound) × Separates queued id index bound places
 
 -- Each of these resets separates them.
 abbrev pub AreSeparated : List Message → ℕ → List Cut → List ℕ → Type 0

@@ -42,7 +42,7 @@ uncut gapless id = record { is_gapless = gapless id; cuts = [] }
 -- What was sent on the stream since its last reset was queued after each of these was asked for.
 abbrev pub ComeSince : History → ℕ → List Cut → Type 0
 ComeSince history id cuts =
-    (cut : Cut) → HasEntry cut cuts → (n : ℕ) (f : Piece) → at_place n history.log ≡ Some (Some f) → f.message.stream ≡ id → f.message.is_unordered ≡ false → history.floors id false ≤ f.mid → cut.place ≤ f.place
+    (cut : Cut) → HasEntry cut cuts → (n : ℕ) (f : Piece) → at_place n history.log ≡ Some (Some f) → f.message.stream ≡ id → IsCurrent history f → cut.place ≤ f.place
 
 -- The stream is in order, with its next number in reach, and without a gap if none was skipped. Each reset of it that was performed
 -- separates its messages, and what comes next was queued since.

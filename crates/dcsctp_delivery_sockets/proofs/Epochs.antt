@@ -22,13 +22,13 @@ use Rattle.dcsctp_delivery_sockets.specs.Ordered.{StartsAtZero, read_under}
 use Rattle.dcsctp_delivery_sockets.specs.Packets.{reading_through}
 use Rattle.dcsctp_delivery_sockets.proofs.Stands.{Stand, queued_of, packets_of, reading_of, reading_more}
 use Rattle.dcsctp_delivery_sockets.proofs.ToldResets.{told_report, reads_more}
-use Rattle.dcsctp_delivery_sockets.proofs.UserMessages.{SaysSame, ordered_on, is_in_order}
+use Rattle.dcsctp_delivery_sockets.proofs.UserMessages.{SaysSame, message_on, is_in_order}
 
 -- What separates what was queued splits what was sent.
 split_of : (queued : List Message) (sent : List Sending) (same : SaysSame (λ sending. sending) queued sent) (stream index count : ℕ) (places : List ℕ) → Separates queued stream index count places → AreSplit sent stream index count places
 split_of queued sent same stream index count [] apart = tt
-split_of queued sent same stream zero count (place ∷ places) apart = ((λ on. apart.0 (ordered_on queued sent same stream place on)), split_of queued sent same stream zero count places apart.1)
-split_of queued sent same stream (suc index) count (place ∷ places) apart = ((λ on. apart.0 (ordered_on queued sent same stream place on)), split_of queued sent same stream index count places apart.1)
+split_of queued sent same stream zero count (place ∷ places) apart = ((λ on. apart.0 (message_on queued sent same stream place on)), split_of queued sent same stream zero count places apart.1)
+split_of queued sent same stream (suc index) count (place ∷ places) apart = ((λ on. apart.0 (message_on queued sent same stream place on)), split_of queued sent same stream index count places apart.1)
 
 module _ (reset_calls : ResetCalls) (mine theirs : Options) (turns others : List Transition) (h : Stand reset_calls mine theirs turns others) (few : length (queued_of mine turns) < 2 ^ 64)
     (went : (tag : ℕ) → chunks_before (h.ends.former tag) (packets_of turns) + chunks_to (h.ends.latest tag) (packets_of turns) < 2 ^ 30)

@@ -23,10 +23,10 @@ use Rattle.dcsctp_delivery_sending.specs.Losing.{AreUnlimited, AreUnlimitedOn}
 use Rattle.dcsctp_delivery_sending.specs.Queueing.{has_limits}
 use Rattle.dcsctp_delivery_associations.proofs.InOrder.{MarkAt, below_at, unlimited_of, unlimited_on_of}
 use Rattle.std.specs.List.{AllByRecursion}
-use Rattle.dcsctp_delivery_order.specs.Queue.{IsOrderedOn, ComeInOrder}
+use Rattle.dcsctp_delivery_order.specs.Queue.{IsMessageOn, IsOrderedOn, ComeInOrder}
 use Rattle.dcsctp_delivery_order.specs.Complete.{AreAllDelivered}
 use Rattle.dcsctp_delivery_order.specs.Streams.{AreDeliveredByStream, AreDeliveredOnStreams}
-use Rattle.dcsctp_delivery_sockets.specs.Ordered.{IsOrderedMessage, RiseOn, IsDeliveredInOrder, IsDeliveredWithoutGaps, IsDeliveredByStream, IsDeliveredOn, IsDeliveredAllOn}
+use Rattle.dcsctp_delivery_sockets.specs.Ordered.{IsStreamMessage, IsOrderedMessage, RiseOn, IsDeliveredInOrder, IsDeliveredWithoutGaps, IsDeliveredByStream, IsDeliveredOn, IsDeliveredAllOn}
 use Rattle.dcsctp_delivery_sockets.specs.UserMessages.{accepted_unless_refused, accepted_as, sent_as, all_sent_as, message_sent, first_readable, messages_read_of_input, read_of, WereSent, IsDelivered}
 
 -- ---- lists
@@ -192,6 +192,13 @@ module _ (queued : List Message) (sent : List Sending) (h : SaysSame (λ sending
         stream = sym (ap (λ (x : Message). x.stream) one.is) ∙ ap (λ (s : Sending). s.message.stream) same ∙ on.on;
         ordered = sym (ap (λ (x : Message). x.is_unordered) one.is) ∙ ap (λ (s : Sending). s.options.unordered) same ∙ on.ordered;
       }
+
+  pub message_on : (p : ℕ) → IsStreamMessage sent stream p → IsMessageOn queued stream p
+  message_on p on =
+      let m : MarkAt queued p = below_at p queued (let below = found_below sent p on.sending on.at in let size = h.size in omega (arith, below, size)) in
+      let one = h.at p m.mark m.at in
+      let same : one.sending ≡ on.sending = same_sending (sym one.at ∙ on.at) in
+      record { message = m.mark; at = m.at; stream = sym (ap (λ (x : Message). x.stream) one.is) ∙ ap (λ (s : Sending). s.message.stream) same ∙ on.on }
 
   pub rise_on : (places : List ℕ) → ComeInOrder queued stream places → RiseOn sent stream places
   rise_on [] come = tt

@@ -15,7 +15,7 @@ use Rattle.dcsctp_spec_runs.specs.Sockets.{endpoint_after}
 use Rattle.dcsctp_delivery_sending.specs.Places.{HasEntry}
 use Rattle.dcsctp_delivery_turns.specs.Actions.{resets_stream}
 use Rattle.dcsctp_delivery_associations.specs.Reads.{nothing_read}
-use Rattle.dcsctp_delivery_sockets.specs.Ordered.{IsOrderedMessage, IsDeliveredInOrder, read_under}
+use Rattle.dcsctp_delivery_sockets.specs.Ordered.{IsStreamMessage, IsDeliveredInOrder, read_under}
 use Rattle.dcsctp_delivery_sockets.specs.Packets.{reading_through}
 use Rattle.dcsctp_delivery_sockets.specs.UserMessages.{sendings_of_turns}
 
@@ -50,12 +50,12 @@ pub record ReportsPeerReset (options : Options) (turns : List Transition) (tag :
 
 -- ---- both
 
--- Messages were read at these places in the order of sending. Of the ordered ones of the stream, those among the first of them, up
--- to this index, are among the first so many that were sent, and none of the others is.
+-- Messages were read at these places in the order of sending. Of those of the stream the first ones, up to this index, are among the
+-- first so many that were sent, and none of the others is.
 abbrev pub AreSplit : List Sending → ℕ → ℕ → ℕ → List ℕ → Type 0
 AreSplit sent stream index count [] = Unit {0}
-AreSplit sent stream zero count (place ∷ places) = (IsOrderedMessage sent stream place → count ≤ place) × AreSplit sent stream zero count places
-AreSplit sent stream (suc index) count (place ∷ places) = (IsOrderedMessage sent stream place → place < count) × AreSplit sent stream index count places
+AreSplit sent stream zero count (place ∷ places) = (IsStreamMessage sent stream place → count ≤ place) × AreSplit sent stream zero count places
+AreSplit sent stream (suc index) count (place ∷ places) = (IsStreamMessage sent stream place → place < count) × AreSplit sent stream index count places
 
 -- They are split so where the reset was asked for.
 pub record AreSplitAsAsked (asked : ℕ → Type 0) (sent : List Sending) (stream index : ℕ) (places : List ℕ) : Type 0 where
@@ -63,9 +63,9 @@ pub record AreSplitAsAsked (asked : ℕ → Type 0) (sent : List Sending) (strea
   pub ask : asked count
   pub split : AreSplit sent stream index count places
 
--- Messages are delivered in order. And each reset that is reported was asked for: of the ordered messages of a stream that it names,
--- those that were sent before the other user asked for it were read before it was reported, or could be, and those sent later were
--- not. A report without streams names all.
+-- Messages are delivered in order. And each reset that is reported was asked for: of the messages of a stream that it names, ordered
+-- or not, those that were read before it was reported, or could be, were sent before the other user asked for it, and those that
+-- are read later were sent since. A report without streams names all.
 pub record IsDeliveredByEpoch (asked : ℕ → ℕ → Type 0) (told : List ℕ → ℕ → Type 0) (sent : List Sending) (read : List MessageContent) : Type 0 where
   pub delivered : IsDeliveredInOrder sent read
   pub epochs : (streams : List ℕ) (index : ℕ) → told streams index → (stream : ℕ) → names_stream streams stream ≡ true → AreSplitAsAsked (asked stream) sent stream index delivered.places

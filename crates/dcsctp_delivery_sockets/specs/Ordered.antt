@@ -30,6 +30,12 @@ pub record IsOrderedMessage (sent : List Sending) (stream place : ℕ) : Type 0 
   pub on : sending.message.stream ≡ stream
   pub ordered : sending.options.unordered ≡ false
 
+-- A message of the stream was sent at this place.
+pub record IsStreamMessage (sent : List Sending) (stream place : ℕ) : Type 0 where
+  pub sending : Sending
+  pub at : slice_get sent place ≡ Some sending
+  pub on : sending.message.stream ≡ stream
+
 -- At these places ordered messages of the stream come in the order in which they were sent.
 abbrev pub RiseOn : List Sending → ℕ → List ℕ → Type 0
 RiseOn sent stream [] = Unit {0}
