@@ -1,14 +1,14 @@
 //! Which TSNs were received, and when that is acknowledged (RFC 9260, sections 6.2 and 6.7). The association
 //! reports to it each DATA chunk, each FORWARD TSN chunk, each end of a packet and each moment.
 
-ghost use Rattle.std.specs.Prelude.{◌≡◌, ◌<◌, ◌-◌, ◌^◌, ◌≤◌, ◌||◌, not, true, false, take, length, IfOk, OnOk, OnErr};
+ghost use Rattle.std.specs.Prelude.{◌≡◌, ◌<◌, ◌-◌, ◌^◌, ◌≤◌, true, false, take, length, IfOk, OnOk, OnErr};
 ghost use Rattle.std.specs.List.{flat_map};
 ghost use Rattle.std.specs.Duration.{as_nanos};
 ghost use Rattle.std.specs.Int.{w32, to_be_bytes};
 ghost use Rattle.dcsctp_receive_tracker.specs.Received.{ranges_of};
 ghost use Rattle.dcsctp_spec_lemmas.specs.spec.queues.Ranges.{IsBeyond};
 ghost use Rattle.dcsctp_receive_tracker.specs.Acknowledging.{IsWithinReach};
-ghost use Rattle.dcsctp_spec_lemmas.specs.spec.queues.Tracker.{nearest_number, comes_into_gap, block_bytes, acknowledgement_delay, after_arrival, is_sack_due, with_duplicate};
+ghost use Rattle.dcsctp_spec_lemmas.specs.spec.queues.Tracker.{nearest_number, block_bytes, acknowledgement_delay, after_arrival, is_sack_due, with_duplicate};
 
 use crate::received::{Received, advance};
 use dcsctp_send_timer::Timer;
@@ -48,31 +48,6 @@ fn after_arrival(state: AckState, is_urgent: bool) -> AckState
     match state {
         AckState::Idle | AckState::BecomingDelayed => AckState::BecomingDelayed,
         AckState::Delayed | AckState::Immediate => AckState::Immediate,
-    }
-}
-
-// Is data to be acknowledged at once? Yes if it came before, has the I flag, is the association's first, or
-// leaves a gap; also if it closes one that counts (RFC 9260, sections 5.1, 6.2 and 6.7).
-fn is_urgent(
-    is_new: bool,
-    immediate_ack: bool,
-    has_seen_data: bool,
-    has_gap: bool,
-    heeds_gap: bool,
-) -> bool
-    ensures { result ≡ (not is_new || immediate_ack || not has_seen_data || has_gap || heeds_gap) }
-{
-    !is_new || immediate_ack || !has_seen_data || has_gap || heeds_gap
-}
-
-// Does data that comes now come into a gap, and does that count (RFC 5681, section 4.2)?
-fn heeds_gap(follows_rfc: bool, received: &Received) -> bool
-    ensures { result ≡ comes_into_gap follows_rfc (ranges_of received.now.ranges) }
-{
-    if follows_rfc {
-        !received.ranges.is_empty()
-    } else {
-        false
     }
 }
 
@@ -336,16 +311,14 @@ impl DataTracker {
         ensures err { OnErr result (self.new ≡ self.old) }
     {
         let number = number_of(self.received.cumulative, tsn);
-        let heeds_gap = heeds_gap(self.follows_rfc, &self.received);
+        let comes_into_gap = self.follows_rfc & !self.received.ranges.is_empty();
         let is_new = self.received.receive(number)?;
         keep_duplicate(&mut self.duplicates, tsn, is_new)?;
-        let is_urgent = is_urgent(
-            is_new,
-            immediate_ack,
-            self.has_seen_data,
-            !self.received.ranges.is_empty(),
-            heeds_gap,
-        );
+        let is_urgent = !is_new
+            | immediate_ack
+            | !self.has_seen_data
+            | !self.received.ranges.is_empty()
+            | comes_into_gap;
         self.has_seen_data = true;
         self.acknowledgement = after_arrival(self.acknowledgement, is_urgent);
         self.delay.stop();
@@ -358,7 +331,7 @@ impl DataTracker {
         ensures left { self.new ≡ after_packet_end now self.old }
         ensures runs { RunsWhereDelayed self.new.acknowledgement self.new.delay.running }
     {
-        if self.acknowledgement == AckState::BecomingDelayed {
+        if let AckState::BecomingDelayed = self.acknowledgement {
             self.acknowledgement = AckState::Delayed;
             self.delay.start(now);
         }
@@ -392,30 +365,21 @@ impl DataTracker {
         is_due
     }
 
-    // How many gap ack blocks a chunk of that many bytes may have: 20, and with `Options::follow_rfc` as many as fit.
-    fn most_blocks(&self, room: usize) -> usize
-        ensures { result ≡ most_blocks self.now.follows_rfc room }
+    // How many gap ack blocks a SACK of that many bytes may have, and how many TSNs that came again: 20 each. With
+    // `Options::follow_rfc` as many blocks as fit, and the duplicates that fit after those that there are.
+    fn most_entries(&self, room: usize) -> (usize, usize)
+        ensures blocks { result.0 ≡ most_blocks self.now.follows_rfc room }
+        ensures duplicates { result.1 ≡ duplicates_left self.now room }
     {
-        if self.follows_rfc {
-            room.min(65535)
-                .saturating_sub(SACK_HEADER_SIZE + FORWARD_TSN_ROOM)
-                / 4
-        } else {
-            MAX_GAP_ACK_BLOCKS
+        if !self.follows_rfc {
+            return (MAX_GAP_ACK_BLOCKS, MAX_DUPLICATE_TSNS);
         }
-    }
-
-    // How many TSNs that came again it may list: 20, and with `Options::follow_rfc` those that fit after the blocks.
-    fn duplicates_left(&self, room: usize) -> usize
-        ensures { result ≡ duplicates_left self.now room }
-    {
-        if self.follows_rfc {
-            self.most_blocks(room)
-                .saturating_sub(self.received.ranges.len())
-                .min(MAX_DUPLICATE_TSNS)
-        } else {
-            MAX_DUPLICATE_TSNS
-        }
+        let blocks = room
+            .min(65535)
+            .saturating_sub(SACK_HEADER_SIZE + FORWARD_TSN_ROOM)
+            / 4;
+        let left = blocks.saturating_sub(self.received.ranges.len());
+        (blocks, left.min(MAX_DUPLICATE_TSNS))
     }
 
     /// What a SACK of at most `room` bytes says now, with the receive window `a_rwnd`: at most 20 gap ack blocks, the
@@ -444,8 +408,7 @@ impl DataTracker {
         ensures ok { OnOk result (self.new ≡ record self.old { duplicates = [] }) }
         ensures err { OnErr result (self.new ≡ self.old) }
     {
-        let most = self.most_blocks(room);
-        let left = self.duplicates_left(room);
+        let (most, left) = self.most_entries(room);
         let blocks = gap_ack_blocks(self.alloc, &self.received, most)?;
         let duplicates = tsn_bytes(self.alloc, self.duplicates.as_slice(), left)?;
         self.duplicates.clear();

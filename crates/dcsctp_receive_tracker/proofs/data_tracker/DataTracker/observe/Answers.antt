@@ -8,4 +8,4 @@ pub returns-clause-ok : goal.returns-clause-ok
 returns-clause-ok c =
     rw (← c.self.view_is, c.after_arrival-self-inside.ensures, c.stop.ensures)
     (observes c.args.tsn c.args.immediate_ack c.in_ok-is_new.is_new (the_view c.self.inside) _ c.receive.new.self.cumulative (ranges_of c.receive.new.self.ranges) c.self.invariant.beyond (rw (← c.number_of-number.ensures) c.in_ok-is_new.ensures.ok)
-    (rw (c.in_ok-keep_duplicate.ensures.ok, c.is_urgent-is_urgent.ensures, c.heeds_gap-heeds_gap.ensures, has_entries c.is_empty.result c.receive.new.self.ranges.entries c.is_empty.ensures) refl))
+    (rw (c.in_ok-keep_duplicate.ensures.ok, has_entries c.is_empty-2.result c.receive.new.self.ranges.entries c.is_empty-2.ensures, has_entries c.is_empty.result c.self.inside.received.ranges.entries c.is_empty.ensures) refl))
