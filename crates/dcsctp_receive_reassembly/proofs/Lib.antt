@@ -14,6 +14,7 @@ pub mod SkippingLemmas
 pub mod SkipsLemmas
 pub mod StreamUsed
 pub mod StreamSums
+pub mod TakingLemmas
 pub mod WaitingLemmas
 pub mod WorkLemmas
 pub mod WrittenLemmas

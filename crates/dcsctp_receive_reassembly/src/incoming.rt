@@ -1,19 +1,17 @@
 //! What was received and doesn't wait for the end of a deferred reset. These are the streams, the parts of
 //! unordered messages, and the ready messages (RFC 9260, sections 6.5, 6.6 and 6.9).
 
-ghost use Rattle.std.specs.Prelude.{◌≡◌, ℕ, ◌+◌, ◌-◌, ◌^◌, ◌<◌, map, true, IfOk, OnOk, OnErr, IsSome, IfSome, IfNone, length, [], ◌∷◌};
+ghost use Rattle.std.specs.Prelude.{◌≡◌, ℕ, ◌+◌, ◌-◌, ◌^◌, ◌<◌, map, true, OnOk, OnErr, IsSome, IfSome, IfNone, length, [], ◌∷◌};
 ghost use Rattle.std.specs.BTreeMap.{get};
 ghost use Rattle.std.specs.List.{list_any};
 ghost use Rattle.std.specs.Ordering.{nat_cmp};
 ghost use Rattle.dcsctp_receive_reassembly.specs.Held.{capped_u128};
-ghost use Rattle.dcsctp_api.specs.spec.queues.IncomingStreams.{ready_bytes, streams_used};
+ghost use Rattle.dcsctp_api.specs.spec.queues.IncomingStreams.{streams_used};
 ghost use Rattle.dcsctp_api.specs.types.queues.Messages.{message_content};
 ghost use Rattle.dcsctp_api.specs.spec.queues.Readiness.{holds_parts, is_unassembled};
 ghost use Rattle.dcsctp_receive_reassembly.specs.Streams.{chunk_of};
-ghost use Rattle.dcsctp_api.specs.spec.queues.IncomingStreams.{TakesOnStream};
 ghost use Rattle.dcsctp_receive_reassembly.specs.Reassembly.{incoming_of, entry_of, Balances};
-ghost use Rattle.dcsctp_receive_reassembly.specs.Counting.{CountsPart};
-ghost use Rattle.dcsctp_api.specs.spec.queues.Incoming.{AreInOrder, stream_on, nothing, received_more, KeepsStreams, SameIncoming, TakesUnorderedData, TakesStreamData, TakesChunk, TakesIncomingChunk};
+ghost use Rattle.dcsctp_api.specs.spec.queues.Incoming.{AreInOrder, nothing, received_more, KeepsStreams, SameIncoming, TakesUnorderedData, TakesStreamData, TakesIncomingChunk};
 
 use crate::arrivals::Data;
 use crate::counting::Counted;
@@ -68,120 +66,6 @@ pub fn make_stream(
     Ok(())
 }
 
-// Adds data to its stream, which exists. The other streams are unchanged.
-fn add_to_existing_stream(
-    alloc: Global,
-    streams: &mut BTreeMap<u16, Stream>,
-    tsn_number: u64,
-    chunk: Data,
-    overhead: usize,
-    ready: &mut VecDeque<Message>,
-) -> Result<Counted, AllocError>
-    requires { IsSome (get nat_cmp streams.old chunk.stream_id.0) }
-    ensures ok { IfOk result
-        (λ counted. TakesOnStream tsn_number (chunk_of chunk)
-        (stream_on chunk.stream_id.0 (map entry_of streams.old.entries))
-        (map message_content ready.old.items) counted.taken
-        (stream_on chunk.stream_id.0 (map entry_of streams.new.entries))
-        (map message_content ready.new.items)) }
-    ensures others { (other : ℕ) → (other ≡ chunk.stream_id.0 → ⊥)
-        → stream_on other (map entry_of streams.new.entries)
-        ≡ stream_on other (map entry_of streams.old.entries) }
-    ensures used { IfOk result
-        (λ counted. CountsPart (length chunk.payload.items + overhead)
-        (streams_used overhead (map entry_of streams.old.entries)
-        + ready_bytes (map message_content ready.old.items)) counted
-        (streams_used overhead (map entry_of streams.new.entries)
-        + ready_bytes (map message_content ready.new.items))) }
-    ensures err { OnErr result
-        ((map message_content ready.new.items ≡ map message_content ready.old.items)
-        × (stream_on chunk.stream_id.0 (map entry_of streams.new.entries)
-        ≡ stream_on chunk.stream_id.0 (map entry_of streams.old.entries))
-        × (streams_used overhead (map entry_of streams.new.entries)
-        ≡ streams_used overhead (map entry_of streams.old.entries))) }
-{
-    let stream = streams.get_mut(&chunk.stream_id.0).unwrap();
-    let counted = stream.route_part(alloc, tsn_number, chunk, overhead, ready)?;
-    Ok(counted)
-}
-
-// Adds data to its stream, which is made first. The other streams are unchanged.
-fn add_to_new_stream(
-    alloc: Global,
-    streams: &mut BTreeMap<u16, Stream>,
-    tsn_number: u64,
-    chunk: Data,
-    overhead: usize,
-    ready: &mut VecDeque<Message>,
-) -> Result<Counted, AllocError>
-    ensures ok { IfOk result
-        (λ counted. TakesOnStream tsn_number (chunk_of chunk)
-        (stream_on chunk.stream_id.0 (map entry_of streams.old.entries))
-        (map message_content ready.old.items) counted.taken
-        (stream_on chunk.stream_id.0 (map entry_of streams.new.entries))
-        (map message_content ready.new.items)) }
-    ensures others { (other : ℕ) → (other ≡ chunk.stream_id.0 → ⊥)
-        → stream_on other (map entry_of streams.new.entries)
-        ≡ stream_on other (map entry_of streams.old.entries) }
-    ensures used { IfOk result
-        (λ counted. CountsPart (length chunk.payload.items + overhead)
-        (streams_used overhead (map entry_of streams.old.entries)
-        + ready_bytes (map message_content ready.old.items)) counted
-        (streams_used overhead (map entry_of streams.new.entries)
-        + ready_bytes (map message_content ready.new.items))) }
-    ensures err { OnErr result
-        ((map message_content ready.new.items ≡ map message_content ready.old.items)
-        × (stream_on chunk.stream_id.0 (map entry_of streams.new.entries)
-        ≡ stream_on chunk.stream_id.0 (map entry_of streams.old.entries))
-        × (streams_used overhead (map entry_of streams.new.entries)
-        ≡ streams_used overhead (map entry_of streams.old.entries))) }
-{
-    make_stream(alloc, streams, chunk.stream_id)?;
-    add_to_existing_stream(alloc, streams, tsn_number, chunk, overhead, ready)
-}
-
-// Adds data to its stream, which is made if nothing was received on it yet. The other streams are unchanged.
-// An existing stream is looked up once.
-#[inline(always)]
-fn add_to_stream(
-    alloc: Global,
-    streams: &mut BTreeMap<u16, Stream>,
-    tsn_number: u64,
-    chunk: Data,
-    overhead: usize,
-    ready: &mut VecDeque<Message>,
-) -> Result<Counted, AllocError>
-    ensures ok { IfOk result
-        (λ counted. TakesOnStream tsn_number (chunk_of chunk)
-        (stream_on chunk.stream_id.0 (map entry_of streams.old.entries))
-        (map message_content ready.old.items) counted.taken
-        (stream_on chunk.stream_id.0 (map entry_of streams.new.entries))
-        (map message_content ready.new.items)) }
-    ensures others { (other : ℕ) → (other ≡ chunk.stream_id.0 → ⊥)
-        → stream_on other (map entry_of streams.new.entries)
-        ≡ stream_on other (map entry_of streams.old.entries) }
-    ensures used { IfOk result
-        (λ counted. CountsPart (length chunk.payload.items + overhead)
-        (streams_used overhead (map entry_of streams.old.entries)
-        + ready_bytes (map message_content ready.old.items)) counted
-        (streams_used overhead (map entry_of streams.new.entries)
-        + ready_bytes (map message_content ready.new.items))) }
-    ensures err { OnErr result
-        ((map message_content ready.new.items ≡ map message_content ready.old.items)
-        × (stream_on chunk.stream_id.0 (map entry_of streams.new.entries)
-        ≡ stream_on chunk.stream_id.0 (map entry_of streams.old.entries))
-        × (streams_used overhead (map entry_of streams.new.entries)
-        ≡ streams_used overhead (map entry_of streams.old.entries))) }
-{
-    match streams.get_mut(&chunk.stream_id.0) {
-        Some(stream) => {
-            let counted = stream.route_part(alloc, tsn_number, chunk, overhead, ready)?;
-            Ok(counted)
-        }
-        None => add_to_new_stream(alloc, streams, tsn_number, chunk, overhead, ready),
-    }
-}
-
 // Does something of a stream wait for more?
 fn any_holds_parts(streams: &BTreeMap<u16, Stream>) -> bool
     ensures any { result
@@ -213,12 +97,13 @@ impl Incoming {
         }
     }
 
-    // CountsPart data that was taken.
-    fn count(&mut self, counted: Counted)
+    // Counts data that was taken, whose TSN has this number.
+    fn count(&mut self, tsn_number: u64, counted: Counted)
         ensures incoming { incoming_of self.new
             ≡ record (incoming_of self.old) {
               messages_received = received_more counted.taken.ready
                   self.old.messages_received;
+              last_tsn_number = tsn_number;
             } }
         ensures used { self.new.used ≡ capped_u128 (self.old.used - counted.freed + counted.added) }
     {
@@ -229,6 +114,7 @@ impl Incoming {
         self.messages_received = self
             .messages_received
             .saturating_add(counted.taken.ready as u64);
+        self.last_tsn_number = tsn_number;
     }
 
     // A part of an unordered message of DATA was received.
@@ -242,6 +128,7 @@ impl Incoming {
         ensures ok { OnOk result
             (TakesUnorderedData tsn_number (chunk_of chunk) (incoming_of self.old)
             (incoming_of self.new)) }
+        ensures last { OnOk result (self.new.last_tsn_number ≡ tsn_number) }
         ensures used { Balances overhead self.old self.new }
         ensures err { OnErr result (SameIncoming (incoming_of self.old) (incoming_of self.new)) }
         ensures count { OnErr result (self.new.used ≡ self.old.used) }
@@ -252,11 +139,34 @@ impl Incoming {
         self.ready.try_reserve(1)?;
         let outcome = self.unordered.add(self.alloc, part, overhead)?;
         let counted = deliver_unordered(id, size, overhead, outcome, &mut self.ready);
-        self.count(counted);
+        self.count(tsn_number, counted);
         Ok(())
     }
 
-    // Data of a stream was received, except for unordered DATA.
+    // Data was received on a new stream, which is made first.
+    fn add_to_new_stream(
+        &mut self,
+        tsn_number: u64,
+        chunk: Data,
+        overhead: usize,
+    ) -> Result<(), AllocError>
+        requires { self.old.used + (length chunk.payload.items + overhead) < 2 ^ 128 }
+        ensures ok { OnOk result
+            (TakesStreamData tsn_number (chunk_of chunk) (incoming_of self.old)
+            (incoming_of self.new)) }
+        ensures last { OnOk result (self.new.last_tsn_number ≡ tsn_number) }
+        ensures used { Balances overhead self.old self.new }
+        ensures err { OnErr result (SameIncoming (incoming_of self.old) (incoming_of self.new)) }
+        ensures count { OnErr result (self.new.used ≡ self.old.used) }
+    {
+        make_stream(self.alloc, &mut self.streams, chunk.stream_id)?;
+        let stream = self.streams.get_mut(&chunk.stream_id.0).unwrap();
+        let counted = stream.route_part(self.alloc, tsn_number, chunk, overhead, &mut self.ready)?;
+        self.count(tsn_number, counted);
+        Ok(())
+    }
+
+    // Data of a stream was received, except for unordered DATA. An existing stream is looked up once.
     #[inline(always)]
     fn add_stream_data(
         &mut self,
@@ -268,45 +178,24 @@ impl Incoming {
         ensures ok { OnOk result
             (TakesStreamData tsn_number (chunk_of chunk) (incoming_of self.old)
             (incoming_of self.new)) }
+        ensures last { OnOk result (self.new.last_tsn_number ≡ tsn_number) }
         ensures used { Balances overhead self.old self.new }
         ensures err { OnErr result (SameIncoming (incoming_of self.old) (incoming_of self.new)) }
         ensures count { OnErr result (self.new.used ≡ self.old.used) }
     {
-        let counted = add_to_stream(
-            self.alloc,
-            &mut self.streams,
-            tsn_number,
-            chunk,
-            overhead,
-            &mut self.ready,
-        )?;
-        self.count(counted);
-        Ok(())
-    }
-
-    // Data was received whose TSN has this number.
-    #[inline(always)]
-    fn route_data(
-        &mut self,
-        tsn_number: u64,
-        chunk: Data,
-        overhead: usize,
-    ) -> Result<(), AllocError>
-        requires { self.old.used + (length chunk.payload.items + overhead) < 2 ^ 128 }
-        ensures ok { OnOk result
-            (TakesChunk tsn_number chunk.numbering (chunk_of chunk) (incoming_of self.old)
-            (incoming_of self.new)) }
-        ensures used { Balances overhead self.old self.new }
-        ensures err { OnErr result (SameIncoming (incoming_of self.old) (incoming_of self.new)) }
-        ensures count { OnErr result (self.new.used ≡ self.old.used) }
-    {
-        match chunk.numbering {
-            Numbering::Unordered => self.add_unordered_data(tsn_number, chunk, overhead),
-            Numbering::Ordered { .. }
-            | Numbering::InterleavedOrdered { .. }
-            | Numbering::InterleavedUnordered { .. } => {
-                self.add_stream_data(tsn_number, chunk, overhead)
+        match self.streams.get_mut(&chunk.stream_id.0) {
+            Some(stream) => {
+                let counted = stream.route_part(
+                    self.alloc,
+                    tsn_number,
+                    chunk,
+                    overhead,
+                    &mut self.ready,
+                )?;
+                self.count(tsn_number, counted);
+                Ok(())
             }
+            None => self.add_to_new_stream(tsn_number, chunk, overhead),
         }
     }
 
@@ -322,9 +211,14 @@ impl Incoming {
         ensures count { OnErr result (self.new.used ≡ self.old.used) }
     {
         let tsn_number = number_near(self.last_tsn_number, tsn);
-        self.route_data(tsn_number, chunk, overhead)?;
-        self.last_tsn_number = tsn_number;
-        Ok(())
+        match chunk.numbering {
+            Numbering::Unordered => self.add_unordered_data(tsn_number, chunk, overhead),
+            Numbering::Ordered { .. }
+            | Numbering::InterleavedOrdered { .. }
+            | Numbering::InterleavedUnordered { .. } => {
+                self.add_stream_data(tsn_number, chunk, overhead)
+            }
+        }
     }
 
     /// Does something wait for more: a message for an earlier one, or parts for the others?

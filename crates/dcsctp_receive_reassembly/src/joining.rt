@@ -23,9 +23,9 @@ ghost use Rattle.dcsctp_receive_reassembly.specs.Runs.{assembled_of, run_model, 
 ghost use Rattle.dcsctp_receive_reassembly.specs.Joins.{FindsJoins};
 ghost use Rattle.dcsctp_receive_reassembly.specs.Held.{capped_u128};
 
-use crate::joins::{Joins, is_held, joins_of};
+use crate::joins::{Joins, is_held_by, joins_of};
 use crate::linking::{append, link, reserve, reserve_between, take_over};
-use crate::runs::{Assembled, Part, Run, Whole, run_used, size_of_run};
+use crate::runs::{Assembled, Part, Run, Whole, run_up_to, run_used, size_of_run};
 use dcsctp_receive_ordered_map::put_entry;
 use std::alloc::{AllocError, Global};
 use std::collections::{BTreeMap, VecDeque};
@@ -316,7 +316,8 @@ pub fn add_alone(runs: &BTreeMap<u128, Run>, part: Part) -> Assembled
         → IsFreed overhead (map run_model runs.now.entries) result
         (map run_model runs.now.entries) }
 {
-    if is_held(runs, part.place) {
+    let nearest = run_up_to(runs, part.place);
+    if is_held_by(nearest, part.place) {
         return Assembled::Dropped;
     }
     Assembled::Whole(Whole {

@@ -92,25 +92,14 @@ fn is_whole(before: Option<(u128, &Run)>, part: &Part, behind: Option<(u128, &Ru
     has_beginning && has_end
 }
 
-// Is the place in the nearest run that begins at it or before it?
-fn is_held_by(nearest: Option<(u128, &Run)>, place: u128) -> bool
+/// Is the place in the nearest run that begins at it or before it?
+pub fn is_held_by(nearest: Option<(u128, &Run)>, place: u128) -> bool
     ensures { result ≡ holds_some (lent_run nearest.entry) place }
 {
     match nearest {
         Some((first, run)) => holds(first, run, place),
         None => false,
     }
-}
-
-/// Does a run hold the place?
-#[inline(always)]
-pub fn is_held(runs: &BTreeMap<u128, Run>, place: u128) -> bool
-    ensures held { result
-        ≡ is_held_before (count_up_to place runs.now.entries) (map run_model runs.now.entries)
-        place }
-    ensures ordered { IsOrdered nat_cmp runs.now }
-{
-    is_held_by(run_up_to(runs, place), place)
 }
 
 // Where a run begins.

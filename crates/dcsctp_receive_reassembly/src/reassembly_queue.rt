@@ -23,6 +23,9 @@ use std::collections::VecDeque;
 use std::fmt;
 use std::marker::Model;
 
+// So much of the receive window can't be counted.
+const MOST_USED: u128 = 0x1_0000_0000_0000_0000;
+
 /// The data that was received: parts of messages, whole messages that wait for their turn, and whole messages
 /// that the user did not take yet.
 #[derive(Drop)]
@@ -65,7 +68,7 @@ impl fmt::Debug for ReassemblyQueue {
 }
 
 impl ReassemblyQueue {
-    ghost use Rattle.std.specs.Prelude.{◌+◌, ◌*◌, ◌/◌, ◌^◌, ◌<◌, nat_le, ◌∷◌, IfSome, IfNone, map};
+    ghost use Rattle.std.specs.Prelude.{◌+◌, ◌*◌, ◌/◌, ◌<◌, nat_le, ◌∷◌, IfSome, IfNone, map};
     ghost use Rattle.dcsctp_api.specs.spec.queues.Reassembly.{new_reassembly, is_above_watermark, is_below_double, bytes_to_watermark, with_ready, window_used, remaining_bytes, can_count, is_data_deferred, with_deferred, AddsData, SkipsData, DeferralModel, ForwardsBeside, is_forward_deferred, deferring, EndsDeferral, StaysDeferred};
     ghost use Rattle.dcsctp_api.specs.spec.queues.Readiness.{reassembly_readiness};
     ghost use Rattle.dcsctp_api.specs.spec.queues.ReceivedParts.{with_reassembly, RestoresReassembly};
@@ -173,19 +176,12 @@ impl ReassemblyQueue {
         (self.max_size as u128).saturating_sub(self.incoming.used) as usize
     }
 
-    // Nine tenths of the receive window, rounded up.
-    fn watermark(&self) -> u128
-        ensures is { result ≡ (9 * self.now.max_size + 9) / 10 }
-        ensures within { result < 2 ^ 64 }
-    {
-        (9 * (self.max_size as u128) + 9) / 10
-    }
-
     /// How many more bytes can be kept until nine tenths of the receive window are in use.
     pub fn bytes_to_watermark(&self) -> usize
         ensures { result ≡ bytes_to_watermark self.now }
     {
-        self.watermark().saturating_sub(self.incoming.used) as usize
+        let watermark = (9 * (self.max_size as u128) + 9) / 10;
+        watermark.saturating_sub(self.incoming.used) as usize
     }
 
     /// Is nothing left of the receive window?
@@ -206,7 +202,7 @@ impl ReassemblyQueue {
     pub fn is_above_watermark(&self) -> bool
         ensures { result ≡ is_above_watermark self.now }
     {
-        self.watermark() <= self.incoming.used
+        9 * (self.max_size as u128) <= self.incoming.used.saturating_mul(10)
     }
 
     // Does what comes with this TSN on this stream wait for the end of a deferred reset?
@@ -240,20 +236,13 @@ impl ReassemblyQueue {
         ensures too_much { can_count (length chunk.payload.items) self.old ≡ false → IsOk result }
         ensures err { OnErr result (SameQueue self.old self.new) }
     {
-        if !self.can_count(chunk.payload.len()) {
+        if MOST_USED - chunk.payload.len() as u128 <= self.incoming.used {
             return Ok(());
         }
         if self.is_deferred(tsn, chunk.stream_id) {
             return self.defer(tsn, chunk);
         }
         self.incoming.add_data(tsn, chunk, self.overhead)
-    }
-
-    // Can the bytes be counted with that many more?
-    fn can_count(&self, size: usize) -> bool
-        ensures { result ≡ can_count size self.now }
-    {
-        self.incoming.used < 0x1_0000_0000_0000_0000 - size as u128
     }
 
     // Data waits for the end of a deferred reset.

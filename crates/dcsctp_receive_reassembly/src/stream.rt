@@ -14,7 +14,7 @@ ghost use Rattle.dcsctp_api.specs.spec.queues.Readiness.{holds_parts};
 ghost use Rattle.dcsctp_receive_reassembly.specs.declared.stream.Waiting.{Waiting};
 ghost use Rattle.dcsctp_receive_reassembly.specs.Streams.{stream_model, waiting_whole, HoldsPlace, chunk_of};
 ghost use Rattle.dcsctp_receive_reassembly.specs.Counting.{CountsOutcome, CountsPart};
-ghost use Rattle.dcsctp_api.specs.spec.queues.IncomingStreams.{is_number_waiting, is_message_due, delivered_from, deliveries_from, delivered_as, next_after, ready_with, TakesNothing, WaitsAmong, TakesOrdered, TakesAhead, TakesUnordered, UnorderedOutcome, next_past, runs_up_to, stream_after_skip, skipped_in_order, skipped_out_of_order, skip_deliveries, skip_used, data_part, TakesOnStream, new_stream};
+ghost use Rattle.dcsctp_api.specs.spec.queues.IncomingStreams.{is_message_due, delivered_from, deliveries_from, delivered_as, next_after, ready_with, TakesNothing, WaitsAmong, TakesOrdered, TakesAhead, TakesUnordered, UnorderedOutcome, next_past, runs_up_to, stream_after_skip, skipped_in_order, skipped_out_of_order, skip_deliveries, skip_used, data_part, TakesOnStream, new_stream};
 
 use crate::arrivals::Data;
 use crate::counting::{Counted, NOTHING, kept, waiting_overhead};
@@ -147,15 +147,6 @@ fn first_is_due(waiting: &BTreeMap<u64, Waiting>, next: u64) -> bool
     }
 }
 
-// Does a message of this number wait?
-#[inline(always)]
-fn waits(waiting: &BTreeMap<u64, Waiting>, number: u64) -> bool
-    ensures waits { result ≡ is_number_waiting number (map waiting_whole waiting.now.entries) }
-    ensures absent { result ≡ false → get nat_cmp waiting.now number ≡ None }
-{
-    waiting.contains_key(&number)
-}
-
 // How much of the receive window the messages use, at most `u128::MAX`.
 fn waiting_used(waiting: &BTreeMap<u64, Waiting>, overhead: usize) -> u128
     ensures { result ≡ capped_u128 (wholes_used overhead (map waiting_whole waiting.now.entries)) }
@@ -246,27 +237,10 @@ impl Stream {
         count
     }
 
-    // The next message is whole: it becomes ready, with those that waited for it. There is room for them.
+    // The next message is whole: it becomes ready, with those that waited for it. There is room for them. The
+    // part that made it whole has that many bytes.
     #[inline(always)]
-    fn deliver_next(&mut self, whole: Whole, ready: &mut VecDeque<Message>) -> usize
-        requires room { deque_len ready.old + btree_map_len self.old.waiting
-            < deque_capacity ready.old }
-        requires next { whole.number ≡ self.old.next }
-        ensures stream { stream_model self.new
-            ≡ delivered_from (next_after self.old.next (whole_of whole)) (stream_model self.old) }
-        ensures ready { map message_content ready.new.items
-            ≡ map message_content ready.old.items
-            ++ ready_with (stream_model self.old) (whole_of whole) }
-        ensures count { result ≡ length (ready_with (stream_model self.old) (whole_of whole)) }
-    {
-        self.next = self.next.saturating_add(1);
-        ready.push_back_reserved(Message::new(self.id, whole.ppid, whole.payload));
-        self.deliver(ready) + 1
-    }
-
-    // The same, with what is counted then. The part that made it whole has that many bytes.
-    #[inline(always)]
-    fn deliver_whole(
+    fn deliver_next(
         &mut self,
         size: usize,
         whole: Whole,
@@ -294,14 +268,16 @@ impl Stream {
     {
         let added = whole.payload.len() as u128;
         let used = whole.used;
-        let count = self.deliver_next(whole, ready);
+        self.next = self.next.saturating_add(1);
+        ready.push_back_reserved(Message::new(self.id, whole.ppid, whole.payload));
+        let count = self.deliver(ready);
         Counted {
             taken: Taken {
                 kept_bytes: size,
-                ready: count,
+                ready: count + 1,
             },
             added,
-            freed: used.saturating_add(waiting_overhead(count.saturating_sub(1), overhead)),
+            freed: used.saturating_add(waiting_overhead(count, overhead)),
         }
     }
 
@@ -336,7 +312,7 @@ impl Stream {
         match self.ordered.add(alloc, part, overhead)? {
             Assembled::Dropped => Ok(NOTHING),
             Assembled::Kept => Ok(kept(size, part_used(size, overhead), 0)),
-            Assembled::Whole(whole) => Ok(self.deliver_whole(size, whole, overhead, ready)),
+            Assembled::Whole(whole) => Ok(self.deliver_next(size, whole, overhead, ready)),
         }
     }
 
@@ -422,7 +398,7 @@ impl Stream {
         if part.number < self.next {
             return Ok(NOTHING);
         }
-        if waits(&self.waiting, part.number) {
+        if self.waiting.contains_key(&part.number) {
             return add_and_deliver_at_once(
                 alloc,
                 self.id,

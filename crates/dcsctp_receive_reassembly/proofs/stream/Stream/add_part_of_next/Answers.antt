@@ -17,8 +17,8 @@ returns-in-Kept-clause-used c =
 
 pub returns-in-Whole-clause-used : goal.returns-in-Whole-clause-used
 returns-in-Whole-clause-used c =
-    let ready : map message_content c.deliver_whole.new.ready.items ≡ map message_content c.args.ready.now.items ++ ready_with (stream_model c.args.self.now) (whole_of c.in-Whole.whole) =
-    c.deliver_whole.ensures.ready ∙ ap (λ (items : List Message). map message_content items ++ ready_with (stream_model c.args.self.now) (whole_of c.in-Whole.whole)) c.try_reserve.ensures.items in
-    subst (λ (stream : StreamModel). CountsPart (length c.args.part.payload.items + c.args.overhead) (kept_stream_used c.args.overhead (stream_model c.args.self.now) + ready_bytes (map message_content c.args.ready.now.items)) c.deliver_whole.result (kept_stream_used c.args.overhead stream + ready_bytes (map message_content c.deliver_whole.new.ready.items)))
-    (sym c.deliver_whole.ensures.stream)
-    (next_counts c.args.overhead (part_of c.args.part) c.in-Whole.whole (stream_model c.args.self.now) (map message_content c.args.ready.now.items) (map message_content c.deliver_whole.new.ready.items) c.add.new.self c.in_ok-add.field-0 c.deliver_whole.result c.in-Whole.is c.in_ok-add.ensures.ok c.in_ok-add.ensures.used ready c.deliver_whole.ensures.added c.deliver_whole.ensures.freed)
+    let ready : map message_content c.deliver_next.new.ready.items ≡ map message_content c.args.ready.now.items ++ ready_with (stream_model c.args.self.now) (whole_of c.in-Whole.whole) =
+    c.deliver_next.ensures.ready ∙ ap (λ (items : List Message). map message_content items ++ ready_with (stream_model c.args.self.now) (whole_of c.in-Whole.whole)) c.try_reserve.ensures.items in
+    subst (λ (stream : StreamModel). CountsPart (length c.args.part.payload.items + c.args.overhead) (kept_stream_used c.args.overhead (stream_model c.args.self.now) + ready_bytes (map message_content c.args.ready.now.items)) c.deliver_next.result (kept_stream_used c.args.overhead stream + ready_bytes (map message_content c.deliver_next.new.ready.items)))
+    (sym c.deliver_next.ensures.stream)
+    (next_counts c.args.overhead (part_of c.args.part) c.in-Whole.whole (stream_model c.args.self.now) (map message_content c.args.ready.now.items) (map message_content c.deliver_next.new.ready.items) c.add.new.self c.in_ok-add.field-0 c.deliver_next.result c.in-Whole.is c.in_ok-add.ensures.ok c.in_ok-add.ensures.used ready c.deliver_next.ensures.added c.deliver_next.ensures.freed)

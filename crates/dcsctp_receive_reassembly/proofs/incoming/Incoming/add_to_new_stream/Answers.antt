@@ -1,0 +1,56 @@
+-- The stream that the map lends is the one at the identifier, before and after; the others stay.
+use Rattle.dcsctp_api.specs.types.queues.Messages.{message_content}
+use Rattle.std.proofs.Common.{◌≡◌, Some, map, length, refl, subst, sym}
+use Rattle.std.specs.Option.{option_copied_mut}
+use Rattle.std.specs.BTreeMap.{get}
+use Rattle.std.specs.Ordering.{nat_cmp}
+use Rattle.dcsctp_receive_reassembly.specs.Streams.{chunk_of}
+use Rattle.dcsctp_receive_reassembly.specs.Reassembly.{incoming_of}
+use Rattle.dcsctp_receive_reassembly.proofs.ResultFacts.{on_err}
+use Rattle.dcsctp_receive_reassembly.proofs.StreamSums.{Written, stream_written}
+use Rattle.dcsctp_receive_reassembly.proofs.TakingLemmas.{taken_on_stream, balanced_on_stream, same_on_stream, balanced_unchanged, written_once_made}
+use Rattle.dcsctp_receive_reassembly.proofs.incoming.Incoming.add_to_new_stream.Goals as goal
+
+pub returns-clause-ok : goal.returns-clause-ok
+returns-clause-ok c =
+    let id = c.args.chunk.stream_id.0 in
+    let made = c.make_stream.new.streams in
+    let streams = c.get_mut.follows.lender c.route_part.new.self in
+    let found : get nat_cmp made id ≡ Some c.unwrap-stream.result.now = sym (subst (λ o. option_copied_mut o ≡ get nat_cmp made id) c.unwrap-stream.ensures c.get_mut.ensures.value) in
+    let written : Written id c.args.self.now.streams streams c.unwrap-stream.result.now c.route_part.new.self =
+    written_once_made id c.args.self.now.streams made streams c.unwrap-stream.result.now c.route_part.new.self c.in_ok-make_stream.ensures.streams c.in_ok-make_stream.ensures.used c.in_ok-make_stream.ensures.kept
+    (stream_written id made streams c.unwrap-stream.result.now c.route_part.new.self found (c.get_mut.follows.holds c.route_part.new.self)) in
+    taken_on_stream (chunk_of c.args.chunk) c.args.self.now streams c.unwrap-stream.result.now c.route_part.new.self written c.args.tsn_number c.in_ok-counted.counted.taken (map message_content c.route_part.new.ready.items) (incoming_of c.count.new.self) c.in_ok-counted.ensures.ok c.count.ensures.incoming
+
+pub returns-clause-used : goal.returns-clause-used
+returns-clause-used c =
+    let id = c.args.chunk.stream_id.0 in
+    let made = c.make_stream.new.streams in
+    let streams = c.get_mut.follows.lender c.route_part.new.self in
+    let found : get nat_cmp made id ≡ Some c.unwrap-stream.result.now = sym (subst (λ o. option_copied_mut o ≡ get nat_cmp made id) c.unwrap-stream.ensures c.get_mut.ensures.value) in
+    let written : Written id c.args.self.now.streams streams c.unwrap-stream.result.now c.route_part.new.self =
+    written_once_made id c.args.self.now.streams made streams c.unwrap-stream.result.now c.route_part.new.self c.in_ok-make_stream.ensures.streams c.in_ok-make_stream.ensures.used c.in_ok-make_stream.ensures.kept
+    (stream_written id made streams c.unwrap-stream.result.now c.route_part.new.self found (c.get_mut.follows.holds c.route_part.new.self)) in
+    balanced_on_stream (chunk_of c.args.chunk) c.args.self.now streams c.unwrap-stream.result.now c.route_part.new.self written c.args.overhead (length c.args.chunk.payload.items) c.args.tsn_number c.in_ok-counted.counted (map message_content c.route_part.new.ready.items) c.count.new.self c.in_ok-counted.ensures.used c.requires c.count.ensures.incoming c.count.ensures.used
+
+pub returns-in_err-counted-clause-err : goal.returns-in_err-counted-clause-err
+returns-in_err-counted-clause-err c =
+    let id = c.args.chunk.stream_id.0 in
+    let made = c.make_stream.new.streams in
+    let streams = c.get_mut.follows.lender c.route_part.new.self in
+    let found : get nat_cmp made id ≡ Some c.unwrap-stream.result.now = sym (subst (λ o. option_copied_mut o ≡ get nat_cmp made id) c.unwrap-stream.ensures c.get_mut.ensures.value) in
+    let written : Written id c.args.self.now.streams streams c.unwrap-stream.result.now c.route_part.new.self =
+    written_once_made id c.args.self.now.streams made streams c.unwrap-stream.result.now c.route_part.new.self c.in_ok-make_stream.ensures.streams c.in_ok-make_stream.ensures.used c.in_ok-make_stream.ensures.kept
+    (stream_written id made streams c.unwrap-stream.result.now c.route_part.new.self found (c.get_mut.follows.holds c.route_part.new.self)) in
+    on_err c.from_residual-in_err-counted.result (same_on_stream (chunk_of c.args.chunk) c.args.self.now streams c.unwrap-stream.result.now c.route_part.new.self written (map message_content c.route_part.new.ready.items) c.in_err-counted.ensures.err.0 c.in_err-counted.ensures.err.1)
+
+pub returns-in_err-counted-clause-used : goal.returns-in_err-counted-clause-used
+returns-in_err-counted-clause-used c =
+    let id = c.args.chunk.stream_id.0 in
+    let made = c.make_stream.new.streams in
+    let streams = c.get_mut.follows.lender c.route_part.new.self in
+    let found : get nat_cmp made id ≡ Some c.unwrap-stream.result.now = sym (subst (λ o. option_copied_mut o ≡ get nat_cmp made id) c.unwrap-stream.ensures c.get_mut.ensures.value) in
+    let written : Written id c.args.self.now.streams streams c.unwrap-stream.result.now c.route_part.new.self =
+    written_once_made id c.args.self.now.streams made streams c.unwrap-stream.result.now c.route_part.new.self c.in_ok-make_stream.ensures.streams c.in_ok-make_stream.ensures.used c.in_ok-make_stream.ensures.kept
+    (stream_written id made streams c.unwrap-stream.result.now c.route_part.new.self found (c.get_mut.follows.holds c.route_part.new.self)) in
+    balanced_unchanged (chunk_of c.args.chunk) c.args.self.now streams c.unwrap-stream.result.now c.route_part.new.self written c.args.overhead (record c.args.self.now { streams = streams; ready = c.route_part.new.ready }) c.in_err-counted.ensures.err.0 c.in_err-counted.ensures.err.1 refl refl
