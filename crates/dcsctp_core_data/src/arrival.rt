@@ -1,9 +1,8 @@
 //! DATA (RFC 9260, section 3.3.1) and I-DATA (RFC 8260, section 2.1) that are received.
 
-ghost use Rattle.std.specs.Prelude.{◌≡◌, IfOk};
+ghost use Rattle.std.specs.Prelude.{◌≡◌};
 ghost use Rattle.dcsctp_core.specs.wire.Content.{data_content, i_data_content};
 ghost use Rattle.dcsctp_core.specs.spec.queues.Arrivals.{data_arrival, i_data_arrival};
-ghost use Rattle.dcsctp_core.specs.receive_reassembly.Streams.{chunk_of};
 ghost use Rattle.dcsctp_core.specs.Handling.{TakesOne};
 ghost use Rattle.dcsctp_core_data.specs.Data.{part_arrival, ReceivesDataChunk};
 
@@ -13,7 +12,7 @@ use dcsctp_core::api::{PpId, StreamId};
 use dcsctp_core::transfer::{Data, Numbering};
 use dcsctp_core::wire::{DataChunk, IDataChunk};
 use rand_core::Rng;
-use std::alloc::{AllocError, Global};
+use std::alloc::AllocError;
 
 /// What a DATA or an I-DATA chunk carries: a part of a message under its TSN.
 #[derive(Clone, Copy, Debug)]
@@ -91,20 +90,6 @@ impl<'a> DataPart<'a> {
             is_end: chunk.flags.is_end,
         }
     }
-
-    // The same as the reassembly queue keeps it, with a copy of the bytes.
-    fn to_data(self, alloc: Global) -> Result<Data, AllocError>
-        ensures { IfOk result (λ made. chunk_of made ≡ (part_arrival self.entry).chunk) }
-    {
-        Ok(Data {
-            stream_id: self.stream_id,
-            numbering: self.numbering,
-            ppid: self.ppid,
-            payload: Vec::from_slice(alloc, self.payload)?,
-            is_beginning: self.is_beginning,
-            is_end: self.is_end,
-        })
-    }
 }
 
 /// Handles DATA or I-DATA: it is stored, and acknowledged when the packet ends (RFC 9260, section 6.2; RFC
@@ -122,7 +107,15 @@ pub fn handle_data<R: Rng>(context: &mut Context<R>, part: DataPart<'_>) -> Resu
     let Some(tcb) = context.state.tcb_mut() else {
         return report_not_connected(context);
     };
-    let data = part.to_data(context.alloc)?;
+    let payload = Vec::from_slice(context.alloc, part.payload)?;
+    let data = Data {
+        stream_id: part.stream_id,
+        numbering: part.numbering,
+        ppid: part.ppid,
+        payload,
+        is_beginning: part.is_beginning,
+        is_end: part.is_end,
+    };
     tcb.transfer
         .receive_data(part.tsn, part.immediate_ack, data)
 }

@@ -1,4 +1,4 @@
-use Rattle.std.proofs.Common.{◌∙◌, OnOk, sym, refl, subst}
+use Rattle.std.proofs.Common.{◌∙◌, ℕ, List, OnOk, sym, refl, ap, subst}
 use Rattle.dcsctp_core.specs.spec.queues.IncomingStreams.{ChunkModel}
 use Rattle.dcsctp_core.specs.spec.endpoint.TransferMoves.{ReceivesData}
 use Rattle.std.proofs.lemmas.Result.{err_from_is_err_and}
@@ -19,8 +19,8 @@ returns-in_default g c =
     not_connected g.R.Rng.stream c.args.context.now c.report_not_connected.result c.report_not_connected.new.context (part_arrival c.args.part)
     (sym c.is_empty.ensures ∙ c.if-is_empty.false) c.in_default.ensures.tcb c.report_not_connected.ensures
 
-pub returns-in_err-data : goal.returns-in_err-data
-returns-in_err-data g c =
+pub returns-in_err-payload : goal.returns-in_err-payload
+returns-in_err-payload g c =
     rw (err_from_is_err_and c.from_residual.result c.from_residual.ensures.1).1
     (data_cut (view_of c.args.context.now) (part_arrival c.args.part))
 
@@ -30,4 +30,4 @@ returns g c =
     let new : Context g.row.R.Denot = record old { state = left_with old.state c.in-Some.tcb.now c.receive_data.new.self } in
     data_worked g.R.Rng.stream old new c.in-Some.tcb.now c.receive_data.new.self c.receive_data.result (part_arrival c.args.part) refl
     (sym c.is_empty.ensures ∙ c.if-is_empty.false) c.in-Some.ensures.tcb
-    (subst (λ (chunk : ChunkModel). OnOk c.receive_data.result (ReceivesData (record (part_arrival c.args.part) { chunk = chunk }) c.in-Some.tcb.now.transfer c.receive_data.new.self)) c.in_ok-data.ensures c.receive_data.ensures.ok)
+    (subst (λ (chunk : ChunkModel). OnOk c.receive_data.result (ReceivesData (record (part_arrival c.args.part) { chunk = chunk }) c.in-Some.tcb.now.transfer c.receive_data.new.self)) (ap (λ (payload : List ℕ). record (part_arrival c.args.part).chunk { payload = payload }) c.in_ok-payload.ensures.items) c.receive_data.ensures.ok)
