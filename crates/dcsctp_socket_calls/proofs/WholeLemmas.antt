@@ -1,5 +1,5 @@
 -- A packet that is handled whole: the turn before its chunks, they, and its end.
-use Rattle.std.proofs.Common.{◌≡◌, ℕ, Bool, true, false, List, [], ◌∷◌, take, refl, ap, subst, ◌∙◌, inl, inr, Result, Ok, Err}
+use Rattle.std.proofs.Common.{◌≡◌, ℕ, Bool, true, false, List, [], ◌∷◌, take, refl, ap, subst, ◌∙◌, inl, inr}
 use Rattle.rand_core.specs.Stream.{Stream}
 use Rattle.dcsctp_core.specs.wire.Content.{PacketContent}
 use Rattle.dcsctp_core.specs.types.declared.association.Pair.{Pair}
@@ -11,11 +11,10 @@ use Rattle.dcsctp_core.specs.spec.endpoint.Endpoint.{Endpoint, Core, closed, coo
 use Rattle.dcsctp_core.specs.spec.endpoint.Outcome.{still}
 use Rattle.dcsctp_core.specs.spec.endpoint.Turn.{packet_begins, has_data_chunk, BeginTurn}
 use Rattle.dcsctp_core.specs.spec.endpoint.CallTurns.{Transition, transition, IsTurn, ChunkTurns, FirstTurns, packet_tail}
-use Rattle.dcsctp_core.specs.declared.context.Context.{Context}
-use Rattle.dcsctp_core.specs.View.{View, Moves, view_of}
+use Rattle.dcsctp_core.specs.View.{View, Moves}
 use Rattle.dcsctp_core.proofs.Moving.{moves_one, moves_then}
 use Rattle.dcsctp_core_ends.specs.Shutdown.{where_open, repeated_by_phase}
-use Rattle.dcsctp_socket_calls.specs.Parts.{packet_begun, begin_turn, ChunksToEnd, ChunksMove, WholeMoves, CutsChunks, CutsWhole, HandlesChunks, HandlesWholePacket}
+use Rattle.dcsctp_socket_calls.specs.Parts.{packet_begun, begin_turn, ChunksToEnd, ChunksMove, WholeMoves, CutsChunks, CutsWhole}
 use Rattle.dcsctp_socket_calls.proofs.ExpiryLemmas.{adds_behind}
 
 -- ---- what precedes the chunks
@@ -100,9 +99,3 @@ whole_cut_rest stream a b packet events first cut =
       adds = adds_behind stream a b (begun packet a ∷ []) cut.turns events (ap (λ (e : Endpoint). ports_of e.options) first.endpoint ∙ begun_ports packet a) (moves_one stream a b (begun packet a) first)
           cut.adds;
     }
-
--- by what its chunks and what comes after them answer
-pub whole_by : {R E : Type 0} (stream : R → Stream) (old mid : Context R) (packet : PacketContent) (result : Result (Unit {0}) E) (new : Context R)
-    → Moves stream (view_of old) (begin_turn packet (view_of old)) (view_of mid) → HandlesChunks stream packet mid result new → HandlesWholePacket stream packet old result new
-whole_by stream old mid packet (Ok done) new first rest = worked_whole stream (view_of old) (view_of mid) (view_of new) packet first rest
-whole_by stream old mid packet (Err error) new first cut = whole_cut_rest stream (view_of old) (view_of mid) packet (view_of new).events first cut

@@ -173,9 +173,6 @@ HandlesTail stream asks_again old result new =
     ByResult (λ done. TurnsMove stream (λ e turns. Turns e (packet_ends ∷ asked_again asks_again) turns) (view_of old) (view_of new))
     (CutsTurns (FirstOfTail asks_again) (view_of old) (view_of new).events) result
 
-abbrev pub HandlesChunks : {R E : Type 0} → (R → Stream) → PacketContent → Context R → Result (Unit {0}) E → Context R → Type 0
-HandlesChunks stream packet old result new = ByResult (λ done. ChunksMove stream packet (view_of old) (view_of new)) (CutsChunks packet (view_of old) (view_of new).events) result
-
 abbrev pub HandlesWholePacket : {R E : Type 0} → (R → Stream) → PacketContent → Context R → Result (Unit {0}) E → Context R → Type 0
 HandlesWholePacket stream packet old result new = ByResult (λ done. WholeMoves stream packet (view_of old) (view_of new)) (CutsWhole packet (view_of old) (view_of new).events) result
 

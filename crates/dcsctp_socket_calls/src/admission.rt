@@ -2,7 +2,7 @@
 
 ghost use Rattle.std.specs.Prelude.{◌≡◌, ◌==◌, false, None, map, string_bytes, IfOk};
 ghost use Rattle.dcsctp_core.specs.wire.Content.{chunk_content, packet_content};
-ghost use Rattle.dcsctp_core.specs.spec.Admission.{first_abort, first_shutdown_complete, has_shutdown_ack, is_echo_in_front, is_single_init, bears_tag, all_chunks_or_none, admits_shutdown_ack, admission_by_answers, admits, eight_hex_digits, wrong_tag_text};
+ghost use Rattle.dcsctp_core.specs.spec.Admission.{first_abort, first_shutdown_complete, has_shutdown_ack, is_echo_in_front, is_single_init, bears_tag, all_chunks_or_none, admits_shutdown_ack, admits, eight_hex_digits, wrong_tag_text};
 ghost use Rattle.dcsctp_core.specs.spec.Packet.{content_of_chunk, packet_of_content};
 ghost use Rattle.dcsctp_core.specs.View.{core_of};
 ghost use Rattle.dcsctp_socket_calls.specs.Admission.{admission_of, admission_refusal_text};
@@ -47,41 +47,46 @@ pub enum Refusal {
     WrongTag { header: u32, expected: u32 },
 }
 
-// The T bit of the first ABORT, if there is one.
-fn first_abort(chunks: &[Chunk<'_>]) -> Option<bool>
-    ensures { result ≡ first_abort (map content_of_chunk (map chunk_content chunks.now)) }
-{
-    for chunk in chunks {
-        if let Chunk::Abort(abort) = chunk {
-            return Some(abort.tag_reflected);
-        }
-    }
-    None
+// The chunks of a packet that end an association: they decide about its tag.
+#[derive(Clone, Copy)]
+struct EndingChunks {
+    // The T bit of the first ABORT, if there is one.
+    abort: Option<bool>,
+
+    // The T bit of the first SHUTDOWN COMPLETE, if there is one.
+    shutdown_complete: Option<bool>,
+
+    // Is there a SHUTDOWN ACK?
+    shutdown_ack: bool,
 }
 
-// The T bit of the first SHUTDOWN COMPLETE, if there is one.
-fn first_shutdown_complete(chunks: &[Chunk<'_>]) -> Option<bool>
-    ensures { result ≡ first_shutdown_complete (map content_of_chunk
-        (map chunk_content chunks.now)) }
+// The chunks among these that end an association.
+fn ending_chunks(chunks: &[Chunk<'_>]) -> EndingChunks
+    ensures abort { result.abort
+        ≡ first_abort (map content_of_chunk (map chunk_content chunks.now)) }
+    ensures shutdown_complete { result.shutdown_complete
+        ≡ first_shutdown_complete (map content_of_chunk (map chunk_content chunks.now)) }
+    ensures shutdown_ack { result.shutdown_ack
+        ≡ has_shutdown_ack (map content_of_chunk (map chunk_content chunks.now)) }
 {
+    let mut abort = None;
+    let mut shutdown_complete = None;
+    let mut shutdown_ack = false;
     for chunk in chunks {
-        if let Chunk::ShutdownComplete(complete) = chunk {
-            return Some(complete.tag_reflected);
+        match chunk {
+            Chunk::Abort(first) => abort = abort.or(Some(first.tag_reflected)),
+            Chunk::ShutdownComplete(first) => {
+                shutdown_complete = shutdown_complete.or(Some(first.tag_reflected));
+            }
+            Chunk::ShutdownAck => shutdown_ack = true,
+            _ => {}
         }
     }
-    None
-}
-
-// Is there a SHUTDOWN ACK?
-fn has_shutdown_ack(chunks: &[Chunk<'_>]) -> bool
-    ensures { result ≡ has_shutdown_ack (map content_of_chunk (map chunk_content chunks.now)) }
-{
-    for chunk in chunks {
-        if let Chunk::ShutdownAck = chunk {
-            return true;
-        }
+    EndingChunks {
+        abort,
+        shutdown_complete,
+        shutdown_ack,
     }
-    false
 }
 
 // Is the first chunk a COOKIE ECHO?
@@ -146,24 +151,6 @@ fn admit_shutdown_ack(state: &State, header: u32) -> Admission
     Admission::ShutdownAcksAlone
 }
 
-// Decides for a packet without an ABORT or a chunk of shutdown that its tag speaks of.
-fn admit_other(state: &State, packet: &SctpPacket<'_>) -> Admission
-    ensures { admission_of result
-        ≡ admission_by_answers (core_of state.now) (packet_of_content (packet_content packet.now))
-        None None false (is_echo_in_front (packet_of_content (packet_content packet.now)).contents)
-        ((packet_of_content (packet_content packet.now)).tag == 0) }
-{
-    let header = packet.common_header.verification_tag;
-    if is_echo_in_front(&packet.chunks) {
-        return Admission::AllChunks;
-    }
-    if header == 0 {
-        return admit_where(is_single_init(&packet.chunks), Refusal::NotASingleInit);
-    }
-    let expected = state.verification_tag();
-    admit_where(header == expected, Refusal::WrongTag { header, expected })
-}
-
 /// Decides by the header tag (RFC 9260, section 8.5.1). A packet with an ABORT or a SHUTDOWN COMPLETE is
 /// judged by that chunk's T bit, one with a SHUTDOWN ACK by the state. A COOKIE ECHO in front is let in. Tag
 /// 0 is for an INIT alone, and any other packet carries our own tag.
@@ -172,20 +159,26 @@ pub fn admit(state: &State, packet: &SctpPacket<'_>) -> Admission
         (packet_content packet.now)) }
 {
     let header = packet.common_header.verification_tag;
-    if let Some(tag_reflected) = first_abort(&packet.chunks) {
-        return admit_where(
-            bears_tag(state, header, tag_reflected),
-            Refusal::WrongAbortTag,
-        );
+    let ending = ending_chunks(&packet.chunks);
+    if let Some(tag_reflected) = ending.abort {
+        let admitted = bears_tag(state, header, tag_reflected);
+        return admit_where(admitted, Refusal::WrongAbortTag);
     }
-    if let Some(tag_reflected) = first_shutdown_complete(&packet.chunks) {
+    if let Some(tag_reflected) = ending.shutdown_complete {
         let admitted = bears_tag(state, header, tag_reflected);
         return admit_where(admitted, Refusal::WrongShutdownCompleteTag);
     }
-    if has_shutdown_ack(&packet.chunks) {
+    if ending.shutdown_ack {
         return admit_shutdown_ack(state, header);
     }
-    admit_other(state, packet)
+    if is_echo_in_front(&packet.chunks) {
+        return Admission::AllChunks;
+    }
+    if header == 0 {
+        return admit_where(is_single_init(&packet.chunks), Refusal::NotASingleInit);
+    }
+    let expected = state.verification_tag();
+    admit_where(header == expected, Refusal::WrongTag { header, expected })
 }
 
 impl Refusal {

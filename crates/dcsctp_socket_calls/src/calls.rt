@@ -1,23 +1,22 @@
 //! The calls of a socket, over its parts: each is a list of turns.
 
-ghost use Rattle.std.specs.Prelude.{◌≡◌, ◌<◌, true, false, IsOk, [], ◌∷◌, map};
+ghost use Rattle.std.specs.Prelude.{◌≡◌, ◌<◌, true, false, IsOk, map};
 ghost use Rattle.dcsctp_core.specs.wire.Content.{chunk_content, packet_content};
 ghost use Rattle.dcsctp_core.specs.spec.Packet.{content_of_chunk};
 ghost use Rattle.dcsctp_core.specs.types.Schedule.{connect_call, close_call, shutdown_call, advance_call};
-ghost use Rattle.dcsctp_core.specs.types.Settings.{wire_options};
 ghost use Rattle.dcsctp_core.specs.spec.endpoint.TimeTurns.{Waits};
 ghost use Rattle.dcsctp_core.specs.spec.endpoint.Turn.{has_data_chunk};
 ghost use Rattle.dcsctp_core.specs.api.Calls.{NoAnswer, is_closed, takes_shutdown};
 ghost use Rattle.dcsctp_core.specs.View.{core_of, endpoint_of};
 ghost use Rattle.dcsctp_core.specs.Handling.{Tries};
 ghost use Rattle.dcsctp_core_ends.specs.Shutdown.{is_open_core};
-ghost use Rattle.dcsctp_socket_calls.specs.Parts.{begin_turn, HandlesToEnd, HandlesTail, HandlesChunks, HandlesWholePacket, HandlesAck, HandlesAcks, HandlesCountedPacket, InputTurns, FirstOfInput, TurnsOf, CutsCall, DrewAlone, MakesAnsweredCall, MakesCallOfUser};
+ghost use Rattle.dcsctp_socket_calls.specs.Parts.{begin_turn, HandlesToEnd, HandlesTail, HandlesWholePacket, HandlesAck, HandlesAcks, HandlesCountedPacket, InputTurns, FirstOfInput, TurnsOf, CutsCall, DrewAlone, MakesAnsweredCall, MakesCallOfUser};
 
 use crate::admission::{Admission, admit};
 use crate::dispatch::handle_chunk;
 use crate::texts::UNREADABLE;
 use crate::timers::handle_timers;
-use dcsctp_core::api::{ErrorKind, Options, SocketTime};
+use dcsctp_core::api::{ErrorKind, SocketTime};
 use dcsctp_core::types::AbortReason;
 use dcsctp_core::wire::{Chunk, PacketError, SctpPacket, WireOptions};
 use dcsctp_core::{Context, Following};
@@ -58,43 +57,16 @@ fn finish_packet<R: Rng>(context: &mut Context<R>, asks_again: bool) -> Result<(
     Ok(())
 }
 
-// Handles the chunks of an admitted packet, and then what comes after them, unless a chunk said that the rest is
-// dropped.
-fn handle_chunks<R: Rng>(
-    context: &mut Context<R>,
-    packet: &SctpPacket<'_>,
-) -> Result<(), AllocError>
-    ensures { HandlesChunks R.stream (packet_content packet.now) context.old result context.new }
-{
-    let asks_again = context.awaits_opening();
-    if handle_each_chunk(context, packet)? {
-        finish_packet(context, asks_again)?;
-    }
-    Ok(())
-}
-
-// Is this DATA, or with `Options::follow_rfc` I-DATA?
-fn is_data(follows_rfc: bool, chunk: &Chunk<'_>) -> bool
-    ensures { result ≡ has_data_chunk follows_rfc (content_of_chunk (chunk_content chunk.now) ∷
-        []) }
-{
-    if let Chunk::Data(_) = chunk {
-        return true;
-    }
-    if let Chunk::IData(_) = chunk {
-        return follows_rfc;
-    }
-    false
-}
-
 // Is there data among these? With `Options::follow_rfc` I-DATA counts, too.
 fn has_data(follows_rfc: bool, chunks: &[Chunk<'_>]) -> bool
     ensures { result ≡ has_data_chunk follows_rfc (map content_of_chunk
         (map chunk_content chunks.now)) }
 {
     for chunk in chunks {
-        if is_data(follows_rfc, chunk) {
-            return true;
+        match chunk {
+            Chunk::Data(_) => return true,
+            Chunk::IData(_) if follows_rfc => return true,
+            _ => {}
         }
     }
     false
@@ -112,13 +84,18 @@ fn begin_packet<R: Rng>(context: &mut Context<R>, packet: &SctpPacket<'_>) -> Re
     Ok(())
 }
 
-// Handles a packet that is admitted whole.
+// Handles a packet that is admitted whole: its chunks, and then what comes after them, unless a chunk said that the
+// rest is dropped.
 fn handle_whole<R: Rng>(context: &mut Context<R>, packet: &SctpPacket<'_>) -> Result<(), AllocError>
     ensures { HandlesWholePacket R.stream (packet_content packet.now) context.old result
         context.new }
 {
     begin_packet(context, packet)?;
-    handle_chunks(context, packet)
+    let asks_again = context.awaits_opening();
+    if handle_each_chunk(context, packet)? {
+        finish_packet(context, asks_again)?;
+    }
+    Ok(())
 }
 
 // Answers a chunk if it is a SHUTDOWN ACK: during a handshake none is awaited. Returns what follows it.
@@ -183,7 +160,14 @@ pub fn handle_input<R: Rng>(context: &mut Context<R>, packet: &[u8]) -> Result<(
 {
     context.begin_call();
     context.count_packet();
-    let options = wire_options(&context.options);
+    let options = WireOptions {
+        local_port: context.options.local_port,
+        disable_checksum_verification: context.options.disable_checksum_verification,
+        zero_checksum_alternate_error_detection_method: context
+            .options
+            .zero_checksum_alternate_error_detection_method
+            .0,
+    };
     match SctpPacket::from_bytes(context.alloc, packet, &options) {
         Ok(packet) => handle_packet(context, &packet)?,
         Err(PacketError::Malformed) => {
@@ -244,17 +228,4 @@ pub fn advance_time<R: Rng>(context: &mut Context<R>, now: SocketTime) -> Result
     context.moment = now;
     handle_timers(context)?;
     Ok(())
-}
-
-// What the reader of packets needs of the options.
-fn wire_options(options: &Options) -> WireOptions
-    ensures { result ≡ wire_options options.now }
-{
-    WireOptions {
-        local_port: options.local_port,
-        disable_checksum_verification: options.disable_checksum_verification,
-        zero_checksum_alternate_error_detection_method: options
-            .zero_checksum_alternate_error_detection_method
-            .0,
-    }
 }

@@ -45,7 +45,7 @@ fn comes_early<R: Rng>(context: &Context<R>, chunk: &Chunk<'_>) -> bool
     ensures { result ≡ comes_early (endpoint_of context.now)
         (content_of_chunk (chunk_content chunk.now)) }
 {
-    context.state.awaits_cookie_ack() && context.options.follow_rfc && needs_connection(chunk)
+    context.options.follow_rfc && context.state.awaits_cookie_ack() && needs_connection(chunk)
 }
 
 /// Handles a chunk of an admitted packet with this header tag, and says what follows it. One that breaks the
