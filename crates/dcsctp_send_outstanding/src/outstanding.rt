@@ -440,7 +440,7 @@ impl Outstanding {
                     begins_after_reset,
                 };
                 let size = item.size(self.interleaving);
-                self.totals.add(item.progress, size);
+                self.totals.add_sent(size);
                 self.items.push_back_reserved(item);
                 Ok(Some(tsn))
             }

@@ -31,6 +31,7 @@ fn counted(test: bool, number: usize) -> usize
 }
 
 impl Totals {
+    ghost use Rattle.dcsctp_api.specs.types.queues.Progress.{just_sent};
     ghost use Rattle.dcsctp_send_outstanding.specs.Totals.{no_totals, HasOne, HasRoomInTotals, total_with, total_without};
 
     /// Those of no items.
@@ -44,6 +45,17 @@ impl Totals {
             never_acknowledged_items: 0,
             marked_items: 0,
         }
+    }
+
+    /// Counts an item of this size that was just sent.
+    pub fn add_sent(&mut self, size: usize)
+        requires { HasRoomInTotals size self.old }
+        ensures { self.new ≡ total_with just_sent size self.old }
+    {
+        self.in_flight_bytes += size;
+        self.unacknowledged_bytes += size;
+        self.unacknowledged_items += 1;
+        self.never_acknowledged_items += 1;
     }
 
     /// Counts an item that is so far, of this size.

@@ -1,15 +1,16 @@
-use Rattle.std.proofs.Common.{inl, ◌<◌, ◌^◌, ◌+◌, length, ap, refl, arith}
+use Rattle.std.proofs.Common.{inl, ◌<◌, ◌^◌, ◌+◌, ◌∙◌, length, ap, sym, refl, arith}
 use Rattle.dcsctp_api.specs.types.declared.progress.Progress.{Progress}
 use Rattle.dcsctp_api.specs.types.queues.Progress.{is_marked}
 use Rattle.dcsctp_api.specs.spec.queues.Outstanding.{OutstandingState}
+use Rattle.dcsctp_send_outstanding.specs.Totals.{total_with}
 use Rattle.dcsctp_send_outstanding.proofs.ItemsLemmas.{kept_pushed, sums_leave_room, size_bounded}
 use Rattle.std.proofs.lemmas.Result.{err_from_is_err_and}
 use Rattle.dcsctp_send_outstanding.proofs.NextLemmas.{has_none}
 use Rattle.dcsctp_send_outstanding.proofs.SettledLemmas.{settled_pushed}
 use Rattle.dcsctp_send_outstanding.proofs.outstanding.Outstanding.send_next.Goals as goal
 
-pub add-requires : goal.add-requires
-add-requires c =
+pub add_sent-requires : goal.add_sent-requires
+add_sent-requires c =
     rw c.size-size.ensures
     (sums_leave_room _ c.self.inside.cursor c.self.inside.items.items _ _ _ (size_bounded c.self.inside.interleaving (record { fragment = c.in-Some.fragment; progress = c.new.result; sent_at = c.args.now; begins_after_reset = c.args.begins_after_reset })) c.self.invariant)
 
@@ -18,7 +19,7 @@ invariant_of-self-in-Some c =
     let some = rw c.in-Some.is at c.in_ok-produce.ensures.size in
     let room : length c.self.inside.items.items + 1 < 2 ^ 31 = omega (arith, c.requires.room, ap (λ (m : OutstandingState). length m.items) c.self.view_is) in
     rw (c.push_back_reserved.ensures.items, c.in_ok-reserve.ensures.items)
-    (kept_pushed _ _ _ _ _ _ _ _ c.self.invariant room c.size-size.ensures c.add.ensures (ap (λ (p : Progress). is_marked p.state) c.new.ensures) (settled_pushed _ _ _ c.self.invariant.settled) (inl some.0))
+    (kept_pushed _ _ _ _ _ _ _ _ c.self.invariant room c.size-size.ensures (c.add_sent.ensures ∙ ap (λ (p : Progress). total_with p c.size-size.result c.self.inside.totals) (sym c.new.ensures)) (ap (λ (p : Progress). is_marked p.state) c.new.ensures) (settled_pushed _ _ _ c.self.invariant.settled) (inl some.0))
 
 pub returns-in-Some-clause-tries : goal.returns-in-Some-clause-tries
 returns-in-Some-clause-tries c =
