@@ -1,6 +1,6 @@
 -- Lemmas about a gap in an array, which moves to the front or to the back.
 use Rattle.std.proofs.Common.{◌≡◌, ℕ, ◌+◌, ◌-◌, ◌<◌, ◌≤◌, List, [], ◌∷◌, ◌++◌, length, get_or, take, drop, set, sym, ap, ap₂, subst, ◌∙◌, arith, append_assoc, get_or-take, length-take-le, length-set, get_or-set_same}
-use Rattle.std.proofs.lemmas.List.{take_more, drop_more, take_more_set, drop-set-lt, take-take, take-append-drop}
+use Rattle.std.proofs.lemmas.List.{take_more, drop_more, drop-set-lt, take-take, take-append-drop}
 use Rattle.std.proofs.Math.Seq.{take-set-lt}
 use Rattle.std.proofs.lemmas.List.{take-set-le}
 use Rattle.dcsctp_core.specs.declared.deadlines.Entry.{Entry}
@@ -10,15 +10,6 @@ use Rattle.dcsctp_core.specs.Listing.{besides}
 pub from_place : (xs : List Entry) (i n : ℕ) (d : Entry) → i < n → n ≤ length xs → drop i (take n xs) ≡ get_or xs i d ∷ drop (i + 1) (take n xs)
 from_place xs i n d below within =
     drop_more (take n xs) i d (omega (arith, length-take-le n xs within)) ∙ ap (λ x. x ∷ drop (i + 1) (take n xs)) (get_or-take n xs i d below)
-
--- the entry after the gap goes one place to the front
-pub gap_to_back : (xs : List Entry) (i n : ℕ) (d : Entry) → i + 1 < n → n ≤ length xs → besides (i + 1) n (set xs i (get_or xs (i + 1) d)) ≡ besides i n xs
-gap_to_back xs i n d below within =
-    let x = get_or xs (i + 1) d in
-    let rest = drop (i + 1 + 1) (take n xs) in
-    let back : drop (i + 1 + 1) (take n (set xs i x)) ≡ rest = ap (drop (i + 1 + 1)) (take-set-lt n xs i x (omega arith)) ∙ drop-set-lt (i + 1 + 1) (take n xs) i x (omega arith) in
-    ap₂ ◌++◌ (take_more_set xs i x (omega arith)) back ∙ append_assoc (take i xs) (x ∷ []) rest
-    ∙ ap (λ l. take i xs ++ l) (sym (from_place xs (i + 1) n d below within))
 
 -- the entry before the gap goes one place to the back
 gap_to_front_at : (xs : List Entry) (i n : ℕ) (d : Entry) → i + 1 < n → n ≤ length xs → besides i n (set xs (i + 1) (get_or xs i d)) ≡ besides (i + 1) n xs

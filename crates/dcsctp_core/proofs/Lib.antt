@@ -21,6 +21,5 @@ pub mod ResetLemmas
 pub mod RestLemmas
 pub mod RoundTripLemmas
 pub mod SentLemmas
-pub mod SettingLemmas
 pub mod SevenLemmas
 pub mod TimeoutLemmas

@@ -1,10 +1,10 @@
 -- Lemmas about the order of a list of deadlines, and about one more entry in its place.
-use Rattle.std.proofs.Common.{◌≡◌, ℕ, Bool, true, false, Option, None, Some, List, [], ◌∷◌, refl, sym, ap, ◌∙◌, arith}
+use Rattle.std.proofs.Common.{◌≡◌, Bool, true, false, None, Some, List, [], ◌∷◌, refl, ap, ◌∙◌, arith}
 use Rattle.std.specs.Prelude.{if◌then◌else◌}
 use Rattle.std.proofs.lemmas.Bool.Decides.{nat_tests}
 use Rattle.dcsctp_core.specs.declared.deadlines.DeadlineKind.{DeadlineKind}
 use Rattle.dcsctp_core.specs.declared.deadlines.Entry.{Entry}
-use Rattle.dcsctp_core.specs.Listing.{is_before, is_same_kind, listed_deadline, entries_with_one, without, list_with_deadline, IsAbsent, IsEarliestEntry, IsListing}
+use Rattle.dcsctp_core.specs.Listing.{is_before, is_same_kind, listed_deadline, entries_with_one, IsAbsent, IsEarliestEntry, IsListing}
 
 -- ---- the order
 
@@ -16,30 +16,6 @@ before-total a b other not = grind (arith, nat_tests)
 
 pub same-sym : (j k : DeadlineKind) → is_same_kind j k ≡ is_same_kind k j
 same-sym j k = grind (arith, nat_tests)
-
-pub without-absent : (kind : DeadlineKind) (xs : List Entry) → IsAbsent kind (without kind xs)
-without-absent kind [] = tt
-without-absent kind (x ∷ xs) = go (is_same_kind kind x.kind) refl (without-absent kind xs)
-  where
-    go : (same : Bool) → is_same_kind kind x.kind ≡ same → IsAbsent kind (without kind xs) → IsAbsent kind (if same then without kind xs else x ∷ without kind xs)
-    go true is rest = rest
-    go false is rest = (is, rest)
-
-first-without : (kind : DeadlineKind) (first : Entry) (xs : List Entry) → IsEarliestEntry first xs → IsEarliestEntry first (without kind xs)
-first-without kind first [] is = tt
-first-without kind first (x ∷ xs) is = go (is_same_kind kind x.kind) (first-without kind first xs is.2)
-  where
-    go : (same : Bool) → IsEarliestEntry first (without kind xs) → IsEarliestEntry first (if same then without kind xs else x ∷ without kind xs)
-    go true rest = rest
-    go false rest = (is.0, is.1, rest)
-
-pub listing-without : (kind : DeadlineKind) (xs : List Entry) → IsListing xs → IsListing (without kind xs)
-listing-without kind [] is = tt
-listing-without kind (x ∷ xs) is = go (is_same_kind kind x.kind) (listing-without kind xs is.1)
-  where
-    go : (same : Bool) → IsListing (without kind xs) → IsListing (if same then without kind xs else x ∷ without kind xs)
-    go true rest = rest
-    go false rest = (first-without kind x xs is.0, rest)
 
 pub first-absent : (first : Entry) (xs : List Entry) → IsEarliestEntry first xs → IsAbsent first.kind xs
 first-absent first [] is = tt
@@ -73,22 +49,7 @@ same-absent j k (x ∷ xs) same absent =
 
 -- ---- a deadline is set
 
-pub listing-set : (kind : DeadlineKind) (deadline : Option ℕ) (xs : List Entry) → IsListing xs → IsListing (list_with_deadline kind deadline xs)
-listing-set kind None xs is = listing-without kind xs is
-listing-set kind (Some moment) xs is = listing-placed (record { moment = moment; kind = kind }) (without kind xs) (without-absent kind xs) (listing-without kind xs is)
-
 -- ---- what the list says after `set`
-
-listed-without : (kind other : DeadlineKind) (xs : List Entry) → is_same_kind other kind ≡ false → listed_deadline other (without kind xs) ≡ listed_deadline other xs
-listed-without kind other [] differ = refl
-listed-without kind other (x ∷ xs) differ = go (is_same_kind kind x.kind) refl (listed-without kind other xs differ)
-  where
-    go : (same : Bool) → is_same_kind kind x.kind ≡ same → listed_deadline other (without kind xs) ≡ listed_deadline other xs
-        → listed_deadline other (if same then without kind xs else x ∷ without kind xs) ≡ (if is_same_kind other x.kind then Some x.moment else listed_deadline other xs)
-    go true same rest =
-        let apart : is_same_kind other x.kind ≡ false = grind (arith, nat_tests) in
-        rest ∙ sym (ap (λ b. if b then Some x.moment else listed_deadline other xs) apart)
-    go false same rest = ap (λ others. if is_same_kind other x.kind then Some x.moment else others) rest
 
 pub listed-absent : (kind : DeadlineKind) (xs : List Entry) → IsAbsent kind xs → listed_deadline kind xs ≡ None
 listed-absent kind [] absent = refl
@@ -114,17 +75,3 @@ listed-placed kind x (y ∷ ys) absent is =
         → listed_deadline kind (if b then x ∷ entries_with_one y ys else y ∷ entries_with_one x ys) ≡ listed_deadline kind (x ∷ y ∷ ys)
     go true carried kept = ap (λ rest. if is_same_kind kind x.kind then Some x.moment else rest) carried
     go false carried kept = ap (λ rest. if is_same_kind kind y.kind then Some y.moment else rest) kept ∙ listed-swap kind y x ys (same-sym y.kind x.kind ∙ absent.0)
-
-pub set_tells : (kind other : DeadlineKind) (deadline : Option ℕ) (xs : List Entry) → IsListing xs
-    → listed_deadline other (list_with_deadline kind deadline xs) ≡ (if is_same_kind other kind then deadline else listed_deadline other xs)
-set_tells kind other None xs is = go (is_same_kind other kind) refl
-  where
-    go : (same : Bool) → is_same_kind other kind ≡ same → listed_deadline other (without kind xs) ≡ (if same then None else listed_deadline other xs)
-    go true same = listed-absent other (without kind xs) (same-absent other kind (without kind xs) same (without-absent kind xs))
-    go false differ = listed-without kind other xs differ
-set_tells kind other (Some moment) xs is =
-    listed-placed other (record { moment = moment; kind = kind }) (without kind xs) (without-absent kind xs) (listing-without kind xs is) ∙ go (is_same_kind other kind) refl
-  where
-    go : (same : Bool) → is_same_kind other kind ≡ same → (if same then Some moment else listed_deadline other (without kind xs)) ≡ (if same then Some moment else listed_deadline other xs)
-    go true same = refl
-    go false differ = listed-without kind other xs differ

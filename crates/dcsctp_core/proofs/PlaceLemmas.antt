@@ -1,109 +1,12 @@
 -- Lemmas about the place of an entry in a list of deadlines.
-use Rattle.std.proofs.Common.{◌≡◌, ℕ, suc, zero, ◌+◌, ◌-◌, ◌<◌, ◌≤◌, Bool, true, false, None, Some, List, [], ◌∷◌, ◌++◌, length, get_or, take, drop, set, refl, sym, ap, ap₂, subst, ◌∙◌, arith, get_or-take, get_or-set_same, length-set, length-take-le}
+use Rattle.std.proofs.Common.{◌≡◌, ℕ, suc, zero, ◌+◌, ◌-◌, ◌<◌, ◌≤◌, true, false, List, [], ◌∷◌, ◌++◌, length, get_or, take, drop, set, refl, sym, ap, subst, ◌∙◌, arith, get_or-take, get_or-set_same, length-set, length-take-le}
 use Rattle.std.specs.Prelude.{if◌then◌else◌, nat_lt}
 use Rattle.std.proofs.lemmas.Bool.Decides.{nat_tests}
-use Rattle.std.proofs.lemmas.List.{take_more, take_more_set, take-set-le, take-take, take-append-drop}
-use Rattle.dcsctp_core.specs.declared.deadlines.DeadlineKind.{DeadlineKind}
+use Rattle.std.proofs.lemmas.List.{take_more, take-set-le, take-take}
 use Rattle.dcsctp_core.specs.declared.deadlines.Entry.{Entry}
-use Rattle.dcsctp_core.specs.Listing.{is_before, is_same_kind, listed_deadline, besides, entry_place, entries_with_one, rank, without, AllBelow, IsAbsent, IsEarliestEntry, IsListing, EndsBefore, BeginsAfter}
+use Rattle.dcsctp_core.specs.Listing.{is_before, besides, entries_with_one, rank, AllBelow, IsAbsent, IsEarliestEntry, IsListing, EndsBefore, BeginsAfter}
 use Rattle.dcsctp_core.proofs.GapLemmas.{from_place, gap_filled}
-use Rattle.dcsctp_core.proofs.ListingLemmas.{before-total, same-sym, first-absent, same-absent}
-
--- ---- looking for a kind
-
-place-append : (kind : DeadlineKind) (xs ys : List Entry) → entry_place kind xs ≡ length xs → entry_place kind (xs ++ ys) ≡ length xs + entry_place kind ys
-place-append kind [] ys none = omega arith
-place-append kind (x ∷ xs) ys none = go (is_same_kind kind x.kind) none (place-append kind xs ys)
-  where
-    go : (same : Bool) → (if same then 0 else suc (entry_place kind xs)) ≡ suc (length xs) → (entry_place kind xs ≡ length xs → entry_place kind (xs ++ ys) ≡ length xs + entry_place kind ys)
-        → (if same then 0 else suc (entry_place kind (xs ++ ys))) ≡ suc (length xs) + entry_place kind ys
-    go true none rest = absurd (omega (arith, none))
-    go false none rest = omega (arith, rest (omega (arith, none)))
-
--- one entry further
-pub place_further : (kind : DeadlineKind) (xs : List Entry) (i : ℕ) (d : Entry) → i < length xs → entry_place kind (take i xs) ≡ i → is_same_kind kind (get_or xs i d).kind ≡ false
-    → entry_place kind (take (i + 1) xs) ≡ i + 1
-place_further kind xs i d within none other =
-    let x = get_or xs i d in
-    ap (entry_place kind) (take_more xs i d within) ∙ place-append kind (take i xs) (x ∷ []) (none ∙ sym (length-take-le i xs (omega arith)))
-    ∙ ap₂ ◌+◌ (length-take-le i xs (omega arith)) (ap (λ b. if b then 0 else 1) other)
-
-pub place_found : (kind : DeadlineKind) (xs : List Entry) (i n : ℕ) (d : Entry) → i < n → n ≤ length xs → entry_place kind (take i xs) ≡ i → is_same_kind kind (get_or xs i d).kind ≡ true
-    → i ≡ entry_place kind (take n xs)
-place_found kind xs i n d below within none same =
-    let rest = drop (i + 1) (take n xs) in
-    let parts : take n xs ≡ take i xs ++ get_or xs i d ∷ rest =
-    sym (take-append-drop i (take n xs)) ∙ ap₂ ◌++◌ (take-take i n xs (omega arith)) (from_place xs i n d below within) in
-    sym (ap (entry_place kind) parts ∙ place-append kind (take i xs) (get_or xs i d ∷ rest) (none ∙ sym (length-take-le i xs (omega arith)))
-    ∙ ap₂ ◌+◌ (length-take-le i xs (omega arith)) (ap (λ b. if b then 0 else suc (entry_place kind rest)) same) ∙ omega arith)
-
-pub place-within : (kind : DeadlineKind) (xs : List Entry) → entry_place kind xs ≤ length xs
-place-within kind [] = omega arith
-place-within kind (x ∷ xs) = go (is_same_kind kind x.kind) (place-within kind xs)
-  where
-    go : (same : Bool) → entry_place kind xs ≤ length xs → (if same then 0 else suc (entry_place kind xs)) ≤ suc (length xs)
-    go true rest = omega arith
-    go false rest = omega (arith, rest)
-
--- none is of the kind
-pub place-absent : (kind : DeadlineKind) (xs : List Entry) → entry_place kind xs ≡ length xs → IsAbsent kind xs
-place-absent kind [] none = tt
-place-absent kind (x ∷ xs) none = go (is_same_kind kind x.kind) refl none (place-absent kind xs)
-  where
-    go : (same : Bool) → is_same_kind kind x.kind ≡ same → (if same then 0 else suc (entry_place kind xs)) ≡ suc (length xs) → (entry_place kind xs ≡ length xs → IsAbsent kind xs)
-        → (is_same_kind kind x.kind ≡ false) × IsAbsent kind xs
-    go true same none rest = absurd (omega (arith, none))
-    go false other none rest = (other, rest (omega (arith, none)))
-
-pub absent-without : (kind : DeadlineKind) (xs : List Entry) → IsAbsent kind xs → without kind xs ≡ xs
-absent-without kind [] absent = refl
-absent-without kind (x ∷ xs) absent =
-    ap (λ b. if b then without kind xs else x ∷ without kind xs) absent.0 ∙ ap (λ l. x ∷ l) (absent-without kind xs absent.1)
-
--- the deadline of a kind, by its place
-listed-at : (kind : DeadlineKind) (xs : List Entry) (d : Entry) → entry_place kind xs < length xs → listed_deadline kind xs ≡ Some (get_or xs (entry_place kind xs) d).moment
-listed-at kind [] d some = absurd (omega (arith, some))
-listed-at kind (x ∷ xs) d some = go (is_same_kind kind x.kind) some (listed-at kind xs d)
-  where
-    go : (same : Bool) → (if same then 0 else suc (entry_place kind xs)) < suc (length xs)
-        → (entry_place kind xs < length xs → listed_deadline kind xs ≡ Some (get_or xs (entry_place kind xs) d).moment)
-        → (if same then Some x.moment else listed_deadline kind xs) ≡ Some (get_or (x ∷ xs) (if same then 0 else suc (entry_place kind xs)) d).moment
-    go true some rest = refl
-    go false some rest = rest (omega (arith, some))
-
-pub listed_at : (kind : DeadlineKind) (xs : List Entry) (n p : ℕ) (d : Entry) → n ≤ length xs → p ≡ entry_place kind (take n xs) → p < n → Some (get_or xs p d).moment ≡ listed_deadline kind (take n xs)
-listed_at kind xs n p d within is below =
-    ap (λ (x : Entry). Some x.moment) (sym (get_or-take n xs p d below) ∙ ap (λ q. get_or (take n xs) q d) is)
-    ∙ sym (listed-at kind (take n xs) d (omega (arith, is, length-take-le n xs within)))
-
-listed-absent : (kind : DeadlineKind) (xs : List Entry) → IsAbsent kind xs → listed_deadline kind xs ≡ None
-listed-absent kind [] absent = refl
-listed-absent kind (x ∷ xs) absent = ap (λ b. if b then Some x.moment else listed_deadline kind xs) absent.0 ∙ listed-absent kind xs absent.1
-
-pub listed_nowhere : (kind : DeadlineKind) (xs : List Entry) → entry_place kind xs ≡ length xs → listed_deadline kind xs ≡ None
-listed_nowhere kind xs none = listed-absent kind xs (place-absent kind xs none)
-
--- ---- the others
-
-others-without : (kind : DeadlineKind) (xs : List Entry) → entry_place kind xs < length xs → IsListing xs
-    → take (entry_place kind xs) xs ++ drop (entry_place kind xs + 1) xs ≡ without kind xs
-others-without kind [] some is = absurd (omega (arith, some))
-others-without kind (x ∷ xs) some is = go (is_same_kind kind x.kind) refl some (λ more. others-without kind xs more is.1)
-  where
-    go : (same : Bool) → is_same_kind kind x.kind ≡ same → (if same then 0 else suc (entry_place kind xs)) < suc (length xs)
-        → (entry_place kind xs < length xs → take (entry_place kind xs) xs ++ drop (entry_place kind xs + 1) xs ≡ without kind xs)
-        → take (if same then 0 else suc (entry_place kind xs)) (x ∷ xs) ++ drop ((if same then 0 else suc (entry_place kind xs)) + 1) (x ∷ xs) ≡ (if same then without kind xs else x ∷ without kind xs)
-    go true same some rest = sym (absent-without kind xs (same-absent kind x.kind xs same (first-absent x xs is.0)))
-    go false other some rest =
-        let behind : suc (entry_place kind xs) + 1 ≡ suc (entry_place kind xs + 1) = omega arith in
-        ap (λ n. x ∷ take (entry_place kind xs) xs ++ drop n (x ∷ xs)) behind ∙ ap (λ l. x ∷ l) (rest (omega (arith, some)))
-
-pub others_without : (kind : DeadlineKind) (xs : List Entry) (n p : ℕ) → n ≤ length xs → p ≡ entry_place kind (take n xs) → p < n → IsListing (take n xs)
-    → besides p n xs ≡ without kind (take n xs)
-others_without kind xs n p within is below listing =
-    ap (λ l. l ++ drop (p + 1) (take n xs)) (sym (take-take p n xs (omega arith)))
-    ∙ ap (λ q. take q (take n xs) ++ drop (q + 1) (take n xs)) is
-    ∙ others-without kind (take n xs) (omega (arith, is, length-take-le n xs within)) listing
+use Rattle.dcsctp_core.proofs.ListingLemmas.{before-total, same-sym}
 
 drop_all : (n : ℕ) (xs : List Entry) → length xs ≤ n → drop n xs ≡ []
 drop_all zero [] h = refl
@@ -122,9 +25,6 @@ last_gap xs n p within is =
 
 -- ---- what is around the place of a new entry
 
-before-asym : (a b : Entry) → is_before a b ≡ true → is_before b a ≡ false
-before-asym a b before = grind (arith, nat_tests)
-
 not-before : (a b c : Entry) → is_before a b ≡ true → is_before c b ≡ false → is_before c a ≡ false
 not-before a b c ab cb = grind (arith, nat_tests)
 
@@ -141,13 +41,6 @@ get_or_known : (xs : List Entry) (i : ℕ) (d e : Entry) → i < length xs → g
 get_or_known [] i d e within = absurd (omega arith)
 get_or_known (x ∷ xs) zero d e within = refl
 get_or_known (x ∷ xs) (suc i) d e within = get_or_known xs i d e (omega arith)
-
-pub ends_after : (new : Entry) (xs : List Entry) (i j : ℕ) (d e : Entry) → i < length xs → j < length xs → is_before (get_or xs j e) new ≡ true
-    → EndsBefore new (take (i + 1) (set xs i (get_or xs j d)))
-ends_after new xs i j d e within there before =
-    let x = get_or xs j d in
-    subst (EndsBefore new) (sym (take_more_set xs i x within))
-    (ends-append new (take i xs) x (before-asym x new (ap (λ y. is_before y new) (get_or_known xs j d e there) ∙ before)))
 
 pub begins_at : (new : Entry) (xs : List Entry) (i n : ℕ) (d : Entry) → i < n → n ≤ length xs → is_before (get_or xs i d) new ≡ false → BeginsAfter new (drop i (take n xs))
 begins_at new xs i n d below within not = subst (BeginsAfter new) (sym (from_place xs i n d below within)) not

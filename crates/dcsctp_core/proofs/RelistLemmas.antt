@@ -1,13 +1,12 @@
 -- Lemmas about the list that is made of what the timers say.
-use Rattle.std.proofs.Common.{◌≡◌, ℕ, ◌+◌, ◌<◌, ◌≤◌, Bool, true, false, Option, None, Some, List, [], ◌∷◌, refl, sym, ap, ◌∙◌, arith}
+use Rattle.std.proofs.Common.{◌≡◌, ℕ, ◌+◌, ◌<◌, ◌≤◌, Bool, true, false, Option, None, Some, List, [], ◌∷◌, refl, ap, ◌∙◌, arith}
 use Rattle.std.specs.Prelude.{if◌then◌else◌}
 use Rattle.std.proofs.lemmas.Bool.Decides.{nat_tests}
 use Rattle.dcsctp_core.specs.declared.deadlines.DeadlineKind.{DeadlineKind}
 use Rattle.dcsctp_core.specs.declared.deadlines.DeadlineKind.TheVariants.{AcknowledgementDelay, Retransmission, HeartbeatInterval, HeartbeatTimeout, Reconfiguration, T1, T2}
 use Rattle.dcsctp_core.specs.declared.deadlines.Entry.{Entry}
 use Rattle.dcsctp_core.specs.Listing.{is_before, is_same_kind, listed_deadline, entries_with_one, rank, deadline_by_kind, with_entry, AllBelow, IsAbsent, IsListing, ListsEachTimer, RunningDeadlines}
-use Rattle.dcsctp_core.proofs.ListingLemmas.{listing-placed, set_tells}
-use Rattle.dcsctp_core.proofs.PlaceLemmas.{absent-without}
+use Rattle.dcsctp_core.proofs.ListingLemmas.{listed-absent, listed-placed, listing-placed, same-absent}
 
 pub below-absent : (kind : DeadlineKind) (xs : List Entry) → AllBelow (rank kind) xs → IsAbsent kind xs
 below-absent kind [] below = tt
@@ -41,8 +40,12 @@ listing-entry kind (Some moment) xs absent is = listing-placed (record { moment 
 
 entry-tells : (kind other : DeadlineKind) (deadline : Option ℕ) (xs : List Entry) → IsAbsent kind xs → IsListing xs
     → listed_deadline other (with_entry kind deadline xs) ≡ (if is_same_kind other kind then deadline else listed_deadline other xs)
-entry-tells kind other deadline xs absent is =
-    ap (λ others. listed_deadline other (with_entry kind deadline others)) (sym (absent-without kind xs absent)) ∙ set_tells kind other deadline xs is
+entry-tells kind other None xs absent is = go (is_same_kind other kind) refl
+  where
+    go : (same : Bool) → is_same_kind other kind ≡ same → listed_deadline other xs ≡ (if same then None else listed_deadline other xs)
+    go true same = listed-absent other xs (same-absent other kind xs same absent)
+    go false differ = refl
+entry-tells kind other (Some moment) xs absent is = listed-placed other (record { moment = moment; kind = kind }) xs absent is
 
 -- ---- all of them, the last kind first
 

@@ -1,10 +1,10 @@
 -- At most seven deadlines are listed, one of each kind.
-use Rattle.std.proofs.Common.{◌≡◌, ℕ, ◌+◌, ◌≤◌, Bool, true, false, List, [], ◌∷◌, length, refl, ap, arith}
+use Rattle.std.proofs.Common.{◌≡◌, ℕ, ◌+◌, ◌≤◌, Bool, true, false, List, [], ◌∷◌, length, take, refl, ap, arith, length-take-le}
 use Rattle.dcsctp_core.specs.declared.deadlines.DeadlineKind.{DeadlineKind}
 use Rattle.dcsctp_core.specs.declared.deadlines.DeadlineKind.TheVariants.{AcknowledgementDelay, Retransmission, HeartbeatInterval, HeartbeatTimeout, Reconfiguration, T1, T2}
 use Rattle.dcsctp_core.specs.declared.deadlines.Entry.{Entry}
-use Rattle.dcsctp_core.specs.Listing.{is_same_kind, without, IsAbsent, IsListing}
-use Rattle.dcsctp_core.proofs.ListingLemmas.{listing-without, without-absent, first-absent, same-absent}
+use Rattle.dcsctp_core.specs.Listing.{is_same_kind, IsAbsent, IsListing}
+use Rattle.dcsctp_core.proofs.ListingLemmas.{first-absent, same-absent}
 
 abbrev one_if : Bool → ℕ
 one_if true = 1
@@ -52,9 +52,10 @@ six_of_seven xs Reconfiguration is none = omega (arith, none, length-count xs, c
 six_of_seven xs T1 is none = omega (arith, none, length-count xs, count-once AcknowledgementDelay xs is, count-once Retransmission xs is, count-once HeartbeatInterval xs is, count-once HeartbeatTimeout xs is, count-once Reconfiguration xs is, count-once T2 xs is)
 six_of_seven xs T2 is none = omega (arith, none, length-count xs, count-once AcknowledgementDelay xs is, count-once Retransmission xs is, count-once HeartbeatInterval xs is, count-once HeartbeatTimeout xs is, count-once Reconfiguration xs is, count-once T1 xs is)
 
-pub six_others : (kind : DeadlineKind) (xs : List Entry) → IsListing xs → length (without kind xs) ≤ 6
-six_others kind xs is = six_of_seven (without kind xs) kind (listing-without kind xs is) (count-absent kind (without kind xs) (without-absent kind xs))
-
 -- where none is of a kind
 pub six_absent : (kind : DeadlineKind) (xs : List Entry) → IsListing xs → IsAbsent kind xs → length xs ≤ 6
 six_absent kind xs is absent = six_of_seven xs kind is (count-absent kind xs absent)
+
+-- So there is room for one more in the array.
+pub room : (kind : DeadlineKind) (xs : List Entry) (n : ℕ) → n ≤ 7 → length xs ≡ 7 → IsListing (take n xs) → IsAbsent kind (take n xs) → n + 1 ≤ 7
+room kind xs n fits long is absent = omega (arith, six_absent kind (take n xs) is absent, length-take-le n xs (omega (arith, fits, long)))

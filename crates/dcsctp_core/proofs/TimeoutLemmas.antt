@@ -9,7 +9,17 @@ use Rattle.dcsctp_transfer.specs.spec.endpoint.Turn.{with_clock}
 use Rattle.dcsctp_core.specs.declared.deadlines.DeadlineKind.{DeadlineKind}
 use Rattle.dcsctp_core.specs.declared.deadlines.DeadlineKind.TheVariants.{AcknowledgementDelay, Retransmission, HeartbeatInterval, HeartbeatTimeout, Reconfiguration, T1, T2}
 use Rattle.dcsctp_core.specs.declared.deadlines.Entry.{Entry}
-use Rattle.dcsctp_core.specs.Listing.{is_before, is_same_kind, listed_deadline, first_moment, list_of_deadlines, deadline_by_kind, IsEarliestEntry, IsListing, RunningDeadlines}
+use Rattle.dcsctp_transfer.specs.spec.endpoint.Timers.{RunningTimer, running_deadline}
+use Rattle.dcsctp_transfer.specs.spec.queues.Retransmission.{retransmission_deadline}
+use Rattle.dcsctp_transfer.specs.spec.queues.Tracker.{delayed_acknowledgement}
+use Rattle.dcsctp_core.specs.declared.context.Context.{Context}
+use Rattle.dcsctp_core.specs.declared.state.CookieWaitState.{CookieWaitState}
+use Rattle.dcsctp_core.specs.declared.state.CookieEchoState.{CookieEchoState}
+use Rattle.dcsctp_core.specs.declared.state.OpenState.{OpenState}
+use Rattle.dcsctp_core.specs.declared.state.State.{State}
+use Rattle.dcsctp_core.specs.declared.state.State.TheVariants.{CookieWait, CookieEchoed, Open}
+use Rattle.dcsctp_core.specs.View.{endpoint_of, t2_of_phase, timer_of}
+use Rattle.dcsctp_core.specs.Listing.{is_before, is_same_kind, listed_deadline, first_moment, list_of_deadlines, deadline_by_kind, with_entry, IsEarliestEntry, IsListing, RunningDeadlines}
 use Rattle.dcsctp_core.specs.Timeout.{kind_of, deadline_among, deadline_in_phase, next_deadline, is_deadline_later, is_quiet, ListsDeadlines}
 use Rattle.dcsctp_core.proofs.RelistLemmas.{relist_tells}
 
@@ -174,6 +184,45 @@ relisted_is_told e core is = subst (λ phase. ListsDeadlines e (list_of_deadline
     go Reconfiguration = refl
     go T1 = refl
     go T2 = refl
+
+-- the same during the handshake, by T1, and on an open association, by the timers that it has
+same_deadline : (timer : Option RunningTimer) → running_deadline timer ≡ deadline_of timer
+same_deadline None = refl
+same_deadline (Some timer) = refl
+
+pub lists_waiting : {R : Type 0} (context : Context R) (wait : CookieWaitState) → context.state ≡ CookieWait wait
+    → ListsDeadlines (endpoint_of context) (with_entry T1 (running_deadline wait.t1_init.running) [])
+lists_waiting context wait is =
+    let at : State → Endpoint = λ state. endpoint_of (record context { state = state }) in
+    subst (λ state. ListsDeadlines (at state) (with_entry T1 (running_deadline wait.t1_init.running) [])) (sym is)
+    (subst (λ t1. ListsDeadlines (at (CookieWait wait)) (with_entry T1 t1 [])) (sym (same_deadline wait.t1_init.running)) (relisted_is_told (at (CookieWait wait)) (cookie_wait _) refl))
+
+pub lists_echoed : {R : Type 0} (context : Context R) (echoed : CookieEchoState) → context.state ≡ CookieEchoed echoed
+    → ListsDeadlines (endpoint_of context) (with_entry T1 (running_deadline echoed.t1_cookie.running) [])
+lists_echoed context echoed is =
+    let at : State → Endpoint = λ state. endpoint_of (record context { state = state }) in
+    subst (λ state. ListsDeadlines (at state) (with_entry T1 (running_deadline echoed.t1_cookie.running) [])) (sym is)
+    (subst (λ t1. ListsDeadlines (at (CookieEchoed echoed)) (with_entry T1 t1 [])) (sym (same_deadline echoed.t1_cookie.running)) (relisted_is_told (at (CookieEchoed echoed)) (cookie_echoed _ _ _) refl))
+
+abbrev open_list : Option ℕ → Option ℕ → Option ℕ → Option ℕ → Option ℕ → Option ℕ → List Entry
+open_list delay loss interval timeout request t2 =
+    with_entry T2 t2 (with_entry Reconfiguration request (with_entry HeartbeatTimeout timeout (with_entry HeartbeatInterval interval (with_entry Retransmission loss (with_entry AcknowledgementDelay delay [])))))
+
+pub lists_open : {R : Type 0} (context : Context R) (opened : OpenState) → context.state ≡ Open opened
+    → ListsDeadlines (endpoint_of context)
+    (with_entry T2 (running_deadline (t2_of_phase opened.phase)) (with_entry Reconfiguration (running_deadline (timer_of opened.tcb.reset_request)) (with_entry HeartbeatTimeout (running_deadline context.heartbeat_timeout.running)
+    (with_entry HeartbeatInterval (running_deadline context.heartbeat_interval.running) (with_entry Retransmission (retransmission_deadline opened.tcb.transfer.retransmission)
+    (with_entry AcknowledgementDelay (delayed_acknowledgement opened.tcb.transfer.tracker) []))))))
+lists_open context opened is =
+    let at : State → Endpoint = λ state. endpoint_of (record context { state = state }) in
+    let delay = delayed_acknowledgement opened.tcb.transfer.tracker in
+    let loss = retransmission_deadline opened.tcb.transfer.retransmission in
+    let told : List Entry = open_list delay loss (running_deadline context.heartbeat_interval.running) (running_deadline context.heartbeat_timeout.running)
+    (running_deadline (timer_of opened.tcb.reset_request)) (running_deadline (t2_of_phase opened.phase)) in
+    let same : told ≡ open_list delay loss (deadline_of context.heartbeat_interval.running) (deadline_of context.heartbeat_timeout.running)
+    (deadline_of (timer_of opened.tcb.reset_request)) (deadline_of (t2_of_phase opened.phase)) =
+    rw (same_deadline context.heartbeat_interval.running, same_deadline context.heartbeat_timeout.running, same_deadline (timer_of opened.tcb.reset_request), same_deadline (t2_of_phase opened.phase)) refl in
+    subst (λ state. ListsDeadlines (at state) told) (sym is) (subst (ListsDeadlines (at (Open opened))) (sym same) (relisted_is_told (at (Open opened)) (open_in _ _ _) refl))
 
 -- What changes neither the phase nor a timer keeps the list.
 pub told_kept : (old new : Endpoint) (entries : List Entry) → new.core ≡ old.core → new.timers ≡ old.timers

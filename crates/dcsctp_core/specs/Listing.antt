@@ -1,5 +1,5 @@
 -- Deadlines in one list, the earliest first.
-use Rattle.std.specs.Prelude.{◌≡◌, ◌<◌, ℕ, suc, ◌+◌, ◌++◌, take, drop, Bool, true, false, ◌&&◌, ◌||◌, nat_lt, nat_eq, if◌then◌else◌, Option, None, Some, List, [], ◌∷◌}
+use Rattle.std.specs.Prelude.{◌≡◌, ◌<◌, ℕ, ◌+◌, ◌++◌, take, drop, Bool, true, false, ◌&&◌, ◌||◌, nat_lt, nat_eq, if◌then◌else◌, Option, None, Some, List, [], ◌∷◌}
 use Rattle.dcsctp_core.specs.declared.deadlines.DeadlineKind.{DeadlineKind}
 use Rattle.dcsctp_core.specs.declared.deadlines.DeadlineKind.TheVariants.{AcknowledgementDelay, Retransmission, HeartbeatInterval, HeartbeatTimeout, Reconfiguration, T1, T2}
 use Rattle.dcsctp_core.specs.declared.deadlines.Entry.{Entry}
@@ -36,20 +36,10 @@ abbrev pub listed_deadline : DeadlineKind → List Entry → Option ℕ
 listed_deadline kind [] = None
 listed_deadline kind (entry ∷ entries) = if is_same_kind kind entry.kind then Some entry.moment else listed_deadline kind entries
 
--- the place of the first entry of a kind; how many entries there are if none is of it
-abbrev pub entry_place : DeadlineKind → List Entry → ℕ
-entry_place kind [] = 0
-entry_place kind (entry ∷ entries) = if is_same_kind kind entry.kind then 0 else suc (entry_place kind entries)
-
 -- the moment of the first entry
 abbrev pub first_moment : List Entry → Option ℕ
 first_moment [] = None
 first_moment (entry ∷ entries) = Some entry.moment
-
--- the entries of the other kinds
-abbrev pub without : DeadlineKind → List Entry → List Entry
-without kind [] = []
-without kind (entry ∷ entries) = if is_same_kind kind entry.kind then without kind entries else entry ∷ without kind entries
 
 -- the entries with one more, in its place
 abbrev pub entries_with_one : Entry → List Entry → List Entry
@@ -63,10 +53,6 @@ besides place count entries = take place entries ++ drop (place + 1) (take count
 abbrev pub with_entry : DeadlineKind → Option ℕ → List Entry → List Entry
 with_entry kind None entries = entries
 with_entry kind (Some moment) entries = entries_with_one (record { moment = moment; kind = kind }) entries
-
--- the list once the deadline of a kind is this one
-abbrev pub list_with_deadline : DeadlineKind → Option ℕ → List Entry → List Entry
-list_with_deadline kind deadline entries = with_entry kind deadline (without kind entries)
 
 -- None of these is of the kind.
 abbrev pub IsAbsent : DeadlineKind → List Entry → Type 0
@@ -98,12 +84,6 @@ IsEarliestEntry first (entry ∷ entries) = (is_before first entry ≡ true) × 
 abbrev pub IsListing : List Entry → Type 0
 IsListing [] = Unit {0}
 IsListing (entry ∷ entries) = IsEarliestEntry entry entries × IsListing entries
-
--- What `set` does to the deadlines: that of the kind is the new one, and the others stay.
-abbrev pub SetKeepsOthers : Type 0
-SetKeepsOthers =
-    (kind other : DeadlineKind) (deadline : Option ℕ) (entries : List Entry) → IsListing entries
-    → listed_deadline other (list_with_deadline kind deadline entries) ≡ (if is_same_kind other kind then deadline else listed_deadline other entries)
 
 -- the list of what the timers say
 abbrev pub list_of_deadlines : RunningDeadlines → List Entry

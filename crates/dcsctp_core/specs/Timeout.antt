@@ -7,7 +7,7 @@ use Rattle.dcsctp_transfer.specs.spec.endpoint.OwnTimers.{acknowledgement_delay,
 use Rattle.dcsctp_core.specs.declared.deadlines.DeadlineKind.{DeadlineKind}
 use Rattle.dcsctp_core.specs.declared.deadlines.DeadlineKind.TheVariants.{AcknowledgementDelay, Retransmission, HeartbeatInterval, HeartbeatTimeout, Reconfiguration, T1, T2}
 use Rattle.dcsctp_core.specs.declared.deadlines.Entry.{Entry}
-use Rattle.dcsctp_core.specs.Listing.{is_same_kind, listed_deadline, first_moment, with_entry}
+use Rattle.dcsctp_core.specs.Listing.{is_same_kind, listed_deadline, first_moment}
 
 -- the kind of a timer's deadline
 abbrev pub kind_of : Timer → DeadlineKind
@@ -27,13 +27,6 @@ deadline_among e (timer ∷ timers) kind = if is_same_kind kind (kind_of timer) 
 -- the deadline of a kind, if it counts in the phase
 abbrev pub deadline_in_phase : Endpoint → DeadlineKind → Option ℕ
 deadline_in_phase e kind = deadline_among e (timers_counted e.core) kind
-
--- the list of the six deadlines of an open association
-abbrev pub listed_open : Endpoint → List Entry
-listed_open e =
-    with_entry T2 (deadline e t2_timer) (with_entry Reconfiguration (deadline e (own_timer reconfiguration)) (with_entry HeartbeatTimeout (deadline e (own_timer heartbeat_timeout))
-    (with_entry HeartbeatInterval (deadline e (own_timer heartbeat_interval)) (with_entry Retransmission (deadline e (own_timer retransmission))
-    (with_entry AcknowledgementDelay (deadline e (own_timer acknowledgement_delay)) [])))))
 
 -- The list has exactly the running deadlines that count in the phase.
 abbrev pub ListsDeadlines : Endpoint → List Entry → Type 0

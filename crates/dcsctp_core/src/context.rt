@@ -62,10 +62,10 @@ pub struct Context<R> {
     pairs: Vec<Pair>,
 
     // When a HEARTBEAT is sent (RFC 9260, section 8.3).
-    heartbeat_interval: Timer,
+    pub(crate) heartbeat_interval: Timer,
 
     // How long the answer to a HEARTBEAT is awaited (RFC 9260, section 8.3).
-    heartbeat_timeout: Timer,
+    pub(crate) heartbeat_timeout: Timer,
 
     // The counter in the last HEARTBEAT.
     heartbeat_counter: u32,
@@ -165,7 +165,6 @@ impl<R: Rng> Context<R> {
     ghost use Rattle.dcsctp_transfer.specs.spec.endpoint.OwnTimers.{heartbeat_interval, heartbeat_timeout, reconfiguration, retransmission};
     ghost use Rattle.dcsctp_transfer.specs.spec.endpoint.HeartbeatOutcomes.{interval_expired, beating, timeout_outcome, endpoint_answered, heartbeat_round_trip, is_exhausted};
     ghost use Rattle.dcsctp_transfer.specs.spec.endpoint.CookieEchoOutcomes.{is_tag_over, is_foreign};
-    ghost use Rattle.dcsctp_transfer.specs.spec.endpoint.Timers.{running_deadline};
     ghost use Rattle.dcsctp_core.specs.Timing.{where_expired, is_timer_due, ExpiresAlways};
     ghost use Rattle.dcsctp_core.specs.Reconfiguring.{request_over};
     ghost use Rattle.dcsctp_core.specs.View.{Moves, core_of, view_of, endpoint_of, outstanding_of, transfer_of, association_dropped, begun_heartbeats, resumed_heartbeats, message_counted, fresh_view, call_start};
@@ -603,20 +602,6 @@ impl<R: Rng> Context<R> {
             (endpoint_of self.now).error_count }
     {
         self.tx_error_counter.is_exhausted()
-    }
-
-    /// When the heartbeat interval expires, if it runs.
-    pub fn heartbeat_interval_deadline(&self) -> Option<SocketTime>
-        ensures { result ≡ running_deadline (endpoint_of self.now).timers.heartbeat_interval }
-    {
-        self.heartbeat_interval.next_expiry()
-    }
-
-    /// When the answer to a HEARTBEAT is awaited no longer, if one is.
-    pub fn heartbeat_timeout_deadline(&self) -> Option<SocketTime>
-        ensures { result ≡ running_deadline (endpoint_of self.now).timers.heartbeat_timeout }
-    {
-        self.heartbeat_timeout.next_expiry()
     }
 
     // Drops the association. With `Options::follow_rfc` the messages that are ready can still be taken, for

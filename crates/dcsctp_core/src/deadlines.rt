@@ -1,8 +1,8 @@
 //! The running deadlines of a socket in one ordered list: `poll_timeout` answers from its first entry, and
 //! `advance_time` handles no timer before it. The last call of a socket has made the list. No call allocates.
 
-ghost use Rattle.std.specs.Prelude.{◌≡◌, ◌≤◌, ◌<◌, ◌+◌, ◌-◌, nat_lt, length, take, drop};
-ghost use Rattle.dcsctp_core.specs.Listing.{is_before, is_same_kind, besides, entry_place, entries_with_one, rank, AllBelow, BeginsAfter, EndsBefore, IsAbsent, IsListing, ListsEachTimer, SetKeepsOthers};
+ghost use Rattle.std.specs.Prelude.{◌≡◌, ◌≤◌, ◌<◌, ◌+◌, nat_lt, length, take, drop};
+ghost use Rattle.dcsctp_core.specs.Listing.{besides, entries_with_one, rank, AllBelow, BeginsAfter, EndsBefore, IsListing, ListsEachTimer};
 
 use dcsctp_transfer::api::SocketTime;
 use std::marker::Model;
@@ -42,74 +42,10 @@ pub struct Entry {
     pub kind: DeadlineKind,
 }
 
-// The place of a kind in the order of kinds.
-fn rank(kind: DeadlineKind) -> u8
-    ensures { result ≡ rank kind }
-{
-    match kind {
-        DeadlineKind::AcknowledgementDelay => 0,
-        DeadlineKind::Retransmission => 1,
-        DeadlineKind::HeartbeatInterval => 2,
-        DeadlineKind::HeartbeatTimeout => 3,
-        DeadlineKind::Reconfiguration => 4,
-        DeadlineKind::T1 => 5,
-        DeadlineKind::T2 => 6,
-    }
-}
-
-fn is_same(kind: DeadlineKind, other: DeadlineKind) -> bool
-    ensures { result ≡ is_same_kind kind other }
-{
-    rank(kind) == rank(other)
-}
-
 fn is_earlier(moment: SocketTime, other: SocketTime) -> bool
     ensures { result ≡ nat_lt moment other }
 {
     moment < other
-}
-
-// Is an entry before another in the list?
-fn is_before(entry: &Entry, other: &Entry) -> bool
-    ensures { result ≡ is_before entry.now other.now }
-{
-    entry.moment < other.moment
-        || entry.moment == other.moment && rank(entry.kind) < rank(other.kind)
-}
-
-// The place of the entry of a kind among the first ones; their number if none is of it.
-fn place_of(entries: &[Entry; 7], count: usize, kind: DeadlineKind) -> usize
-    requires count { count ≤ 7 }
-    requires all { length entries.now ≡ 7 }
-    ensures within { result ≤ count }
-    ensures place { result ≡ entry_place kind (take count entries.now) }
-{
-    for index in 0..count {
-        if is_same(kind, entries[index].kind) {
-            return index;
-        }
-    }
-    count
-}
-
-// Moves a gap to the front: each entry that the new one is before goes one place back.
-fn shift_later(entries: &mut [Entry; 7], count: usize, gap: usize, new: &Entry) -> usize
-    requires place { gap < count }
-    requires count { count ≤ 7 }
-    ensures place { result ≤ gap }
-    ensures others { besides result count entries.new ≡ besides gap count entries.old }
-    ensures front { EndsBefore new.now (take result entries.new) }
-    ensures all { length entries.new ≡ 7 }
-{
-    let mut place = gap;
-    while 0 < place {
-        if !is_before(new, &entries[place - 1]) {
-            return place;
-        }
-        entries[place] = entries[place - 1];
-        place -= 1;
-    }
-    0
 }
 
 // Makes room for an entry of a later kind than those in front: each that expires later goes one place back.
@@ -131,58 +67,6 @@ fn make_room(entries: &mut [Entry; 7], count: usize, new: &Entry) -> usize
         place -= 1;
     }
     0
-}
-
-// Moves a gap to the back: each entry that is before the new one goes one place to the front.
-fn shift_earlier(entries: &mut [Entry; 7], count: usize, gap: usize, new: &Entry) -> usize
-    requires place { gap < count }
-    requires count { count ≤ 7 }
-    requires front { EndsBefore new.now (take gap entries.old) }
-    ensures place { result < count }
-    ensures others { besides result count entries.new ≡ besides gap count entries.old }
-    ensures front { EndsBefore new.now (take result entries.new) }
-    ensures back { BeginsAfter new.now (drop (result + 1) (take count entries.new)) }
-    ensures all { length entries.new ≡ 7 }
-{
-    let mut place = gap;
-    while place + 1 < count {
-        if !is_before(&entries[place + 1], new) {
-            return place;
-        }
-        entries[place] = entries[place + 1];
-        place += 1;
-    }
-    place
-}
-
-// Closes a gap: each entry after it goes one place to the front.
-fn close_gap(entries: &mut [Entry; 7], count: usize, gap: usize)
-    requires place { gap < count }
-    requires count { count ≤ 7 }
-    ensures others { take (count - 1) entries.new ≡ besides gap count entries.old }
-    ensures all { length entries.new ≡ 7 }
-{
-    let mut place = gap;
-    while place + 1 < count {
-        entries[place] = entries[place + 1];
-        place += 1;
-    }
-}
-
-// Puts an entry into its place among the first ones, of which the one at the gap counts no more.
-fn put(entries: &mut [Entry; 7], count: usize, gap: usize, moment: SocketTime, kind: DeadlineKind)
-    requires place { gap < count }
-    requires count { count ≤ 7 }
-    requires listing { IsListing (besides gap count entries.old) }
-    requires absent { IsAbsent kind (besides gap count entries.old) }
-    ensures placed { take count entries.new ≡ entries_with_one
-        (record { moment = moment; kind = kind }) (besides gap count entries.old) }
-    ensures all { length entries.new ≡ 7 }
-{
-    let new = Entry { moment, kind };
-    let gap = shift_later(entries, count, gap, &new);
-    let gap = shift_earlier(entries, count, gap, &new);
-    entries[gap] = new;
 }
 
 // Puts an entry of a later kind than the first ones into its place among them.
@@ -224,7 +108,7 @@ impl Model for Deadlines {
 
 impl Deadlines {
     ghost use Rattle.std.specs.Prelude.{◌≡◌, ◌+◌, []};
-    ghost use Rattle.dcsctp_core.specs.Listing.{listed_deadline, first_moment, rank, list_with_deadline, with_entry, AllBelow, IsListing};
+    ghost use Rattle.dcsctp_core.specs.Listing.{first_moment, rank, with_entry, AllBelow, IsListing};
 
     /// No deadline runs.
     #[inline(always)]
@@ -241,17 +125,6 @@ impl Deadlines {
         }
     }
 
-    /// The deadline of a kind, if it runs.
-    pub fn get(&self, kind: DeadlineKind) -> Option<SocketTime>
-        ensures { result ≡ listed_deadline kind self.now }
-    {
-        let place = place_of(&self.entries, self.count, kind);
-        if place < self.count {
-            return Some(self.entries[place].moment);
-        }
-        None
-    }
-
     /// The earliest deadline, if one runs.
     pub fn first(&self) -> Option<SocketTime>
         ensures first { result ≡ first_moment self.now }
@@ -263,29 +136,6 @@ impl Deadlines {
         Some(self.entries[0].moment)
     }
 
-    /// From now on the timer of a kind runs until this deadline, or it runs no longer. The others are kept.
-    pub fn set(&mut self, kind: DeadlineKind, deadline: Option<SocketTime>)
-        ensures { self.new ≡ list_with_deadline kind deadline self.old }
-    {
-        let place = place_of(&self.entries, self.count, kind);
-        match deadline {
-            None => {
-                if place < self.count {
-                    close_gap(&mut self.entries, self.count, place);
-                    self.count -= 1;
-                }
-            }
-            Some(moment) => {
-                if place == self.count {
-                    self.count += 1;
-                    put(&mut self.entries, self.count, place, moment, kind);
-                } else if self.entries[place].moment != moment {
-                    put(&mut self.entries, self.count, place, moment, kind);
-                }
-            }
-        }
-    }
-
     /// From now on no deadline runs.
     pub fn clear(&mut self)
         ensures { self.new ≡ [] }
@@ -293,8 +143,7 @@ impl Deadlines {
         self.count = 0;
     }
 
-    /// Adds the deadline of a kind, if there is one, to those of earlier kinds. This is `set` without the
-    /// search for an entry of the kind.
+    /// Adds the deadline of a kind, if there is one, to those of earlier kinds.
     pub fn add(&mut self, kind: DeadlineKind, deadline: Option<SocketTime>)
         requires { AllBelow (rank kind) self.old }
         ensures added { self.new ≡ with_entry kind deadline self.old }
@@ -306,11 +155,6 @@ impl Deadlines {
         }
     }
 }
-
-/// A law: `set` changes the deadline of its kind alone.
-pub fn set_tells()
-    ensures { SetKeepsOthers }
-{}
 
 /// A law: a list that was made of what timers say has that of each timer, and nothing else.
 pub fn relist_tells()

@@ -20,7 +20,7 @@ mod transmission_control_block;
 mod tx_error_counter;
 
 pub use context::Context;
-pub use deadlines::{DeadlineKind, Deadlines, Entry, relist_tells, set_tells};
+pub use deadlines::{DeadlineKind, Deadlines, Entry, relist_tells};
 pub use expiry::Expiry;
 pub use following::Following;
 pub use resetting::{RequestStart, number_answered, stream_bytes};

@@ -17,7 +17,7 @@ use std::time::Duration;
 
 impl OpenPhase {
     // When T2 expires next, in `ShutdownSent` and `ShutdownAckSent`; none elsewhere.
-    fn t2_deadline(&self) -> Option<SocketTime>
+    pub(crate) fn t2_deadline(&self) -> Option<SocketTime>
         ensures { result ≡ running_deadline (t2_of_phase self.now) }
     {
         match self {
@@ -115,16 +115,6 @@ impl State {
             State::Closed | State::CookieWait(_) => {}
             State::CookieEchoed(echoed) => echoed.tcb.transfer.observe_round_trip(round_trip),
             State::Open(opened) => opened.tcb.transfer.observe_round_trip(round_trip),
-        }
-    }
-
-    /// When T2 expires next, in `ShutdownSent` and `ShutdownAckSent`; none elsewhere. Allocates nothing.
-    pub fn t2_deadline(&self) -> Option<SocketTime>
-        ensures { result ≡ running_deadline (t2_of self.now) }
-    {
-        match self {
-            State::Closed | State::CookieWait(_) | State::CookieEchoed(_) => None,
-            State::Open(opened) => opened.phase.t2_deadline(),
         }
     }
 

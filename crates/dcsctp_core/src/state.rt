@@ -162,7 +162,6 @@ impl State {
     ghost use Rattle.dcsctp_transfer.specs.spec.endpoint.Endpoint.{own_tag, association_of, is_cookie_echoed};
     ghost use Rattle.dcsctp_transfer.specs.api.Calls.{socket_state_of, is_closed};
     ghost use Rattle.std.specs.Option.{option_map};
-    ghost use Rattle.dcsctp_transfer.specs.spec.endpoint.Timers.{running_deadline};
     ghost use Rattle.std.specs.Borrow.{sem};
     ghost use Rattle.dcsctp_core.specs.View.{core_of, tcb_of, t1_of, transfer_of, established_from};
     ghost use Rattle.dcsctp_core.specs.Lending.{LendsTcb};
@@ -307,17 +306,6 @@ impl State {
             }),
             State::CookieEchoed(echoed) => Some(echoed.tcb.association(Phase::CookieEchoed)),
             State::Open(opened) => Some(opened.tcb.association(opened.phase.phase())),
-        }
-    }
-
-    /// When T1 expires next, in `CookieWait` and `CookieEchoed`; none elsewhere. Allocates nothing.
-    pub fn t1_deadline(&self) -> Option<SocketTime>
-        ensures { result ≡ running_deadline (t1_of self.now) }
-    {
-        match self {
-            State::Closed | State::Open(_) => None,
-            State::CookieWait(wait) => wait.t1_init.next_expiry(),
-            State::CookieEchoed(echoed) => echoed.t1_cookie.next_expiry(),
         }
     }
 

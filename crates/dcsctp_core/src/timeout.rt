@@ -2,87 +2,44 @@
 
 ghost use Rattle.std.specs.Prelude.{◌≡◌, [], true};
 ghost use Rattle.dcsctp_transfer.specs.spec.endpoint.Turn.{with_clock};
-ghost use Rattle.dcsctp_transfer.specs.spec.endpoint.TimeTurns.{deadline, next_moment, own_timer, t1_timer, t2_timer, handled_timers, NoneIsDue};
-ghost use Rattle.dcsctp_transfer.specs.spec.endpoint.OwnTimers.{acknowledgement_delay, reconfiguration, retransmission};
+ghost use Rattle.dcsctp_transfer.specs.spec.endpoint.TimeTurns.{next_moment, handled_timers, NoneIsDue};
+ghost use Rattle.dcsctp_core.specs.declared.state.State.TheVariants.{Open};
 ghost use Rattle.dcsctp_core.specs.View.{core_of, endpoint_of};
-ghost use Rattle.dcsctp_core.specs.Timeout.{is_deadline_later, is_quiet, listed_open, next_deadline, ListsDeadlines};
+ghost use Rattle.dcsctp_core.specs.Timeout.{is_deadline_later, is_quiet, next_deadline, ListsDeadlines};
 
 use crate::context::Context;
 use crate::deadlines::{DeadlineKind, Deadlines};
-use crate::state::State;
+use crate::state::{OpenState, State};
 use dcsctp_transfer::api::SocketTime;
 use rand_core::Rng;
 
-// When a delayed acknowledgement is due, if one is delayed.
-fn acknowledgement_deadline<R: Rng>(context: &Context<R>) -> Option<SocketTime>
-    ensures { result ≡ deadline (endpoint_of context.now) (own_timer acknowledgement_delay) }
-{
-    match context.state.tcb() {
-        None => None,
-        Some(tcb) => tcb.transfer.acknowledgement_deadline(),
-    }
-}
-
-// When what is in flight is lost, where something is.
-fn retransmission_deadline<R: Rng>(context: &Context<R>) -> Option<SocketTime>
-    ensures { result ≡ deadline (endpoint_of context.now) (own_timer retransmission) }
-{
-    match context.state.tcb() {
-        None => None,
-        Some(tcb) => tcb.transfer.retransmission_deadline(),
-    }
-}
-
-// When our own request to reset streams is sent again, if one is outstanding.
-fn reconfiguration_deadline<R: Rng>(context: &Context<R>) -> Option<SocketTime>
-    ensures { result ≡ deadline (endpoint_of context.now) (own_timer reconfiguration) }
-{
-    match context.state.tcb() {
-        None => None,
-        Some(tcb) => tcb.reconfiguration_deadline(),
-    }
-}
-
-// When a SHUTDOWN or SHUTDOWN ACK that isn't answered is sent again, if one is.
-fn t2_deadline<R: Rng>(context: &Context<R>) -> Option<SocketTime>
-    ensures { result ≡ deadline (endpoint_of context.now) t2_timer }
-{
-    context.state.t2_deadline()
-}
-
-// When an INIT or COOKIE ECHO that isn't answered is sent again, if one is.
-fn t1_deadline<R: Rng>(context: &Context<R>) -> Option<SocketTime>
-    ensures { result ≡ deadline (endpoint_of context.now) t1_timer }
-{
-    context.state.t1_deadline()
-}
-
 // Lists the six deadlines of an open association.
-fn list_open<R: Rng>(context: &Context<R>, deadlines: &mut Deadlines)
-    requires { deadlines.old ≡ [] }
-    ensures { deadlines.new ≡ listed_open (endpoint_of context.now) }
+fn list_open<R: Rng>(context: &Context<R>, opened: &OpenState, deadlines: &mut Deadlines)
+    requires empty { deadlines.old ≡ [] }
+    requires opened { context.now.state ≡ Open opened.now }
+    ensures { ListsDeadlines (endpoint_of context.now) deadlines.new }
 {
     deadlines.add(
         DeadlineKind::AcknowledgementDelay,
-        acknowledgement_deadline(context),
+        opened.tcb.transfer.acknowledgement_deadline(),
     );
     deadlines.add(
         DeadlineKind::Retransmission,
-        retransmission_deadline(context),
+        opened.tcb.transfer.retransmission_deadline(),
     );
     deadlines.add(
         DeadlineKind::HeartbeatInterval,
-        context.heartbeat_interval_deadline(),
+        context.heartbeat_interval.next_expiry(),
     );
     deadlines.add(
         DeadlineKind::HeartbeatTimeout,
-        context.heartbeat_timeout_deadline(),
+        context.heartbeat_timeout.next_expiry(),
     );
     deadlines.add(
         DeadlineKind::Reconfiguration,
-        reconfiguration_deadline(context),
+        opened.tcb.reconfiguration_deadline(),
     );
-    deadlines.add(DeadlineKind::T2, t2_deadline(context));
+    deadlines.add(DeadlineKind::T2, opened.phase.t2_deadline());
 }
 
 /// Makes the list again from the timers. Each call that may change a timer ends with it. During the handshake
@@ -91,11 +48,13 @@ pub fn list_deadlines<R: Rng>(context: &Context<R>, deadlines: &mut Deadlines)
     ensures { ListsDeadlines (endpoint_of context.now) deadlines.new }
 {
     deadlines.clear();
-    match context.state {
+    match &context.state {
         State::Closed => {}
-        State::CookieWait(_) => deadlines.add(DeadlineKind::T1, t1_deadline(context)),
-        State::CookieEchoed(_) => deadlines.add(DeadlineKind::T1, t1_deadline(context)),
-        State::Open(_) => list_open(context, deadlines),
+        State::CookieWait(wait) => deadlines.add(DeadlineKind::T1, wait.t1_init.next_expiry()),
+        State::CookieEchoed(echoed) => {
+            deadlines.add(DeadlineKind::T1, echoed.t1_cookie.next_expiry());
+        }
+        State::Open(opened) => list_open(context, opened, deadlines),
     }
 }
 

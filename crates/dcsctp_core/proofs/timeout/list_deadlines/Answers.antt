@@ -1,10 +1,10 @@
 use Rattle.std.proofs.Common.{ap, ap₂, subst, sym, ◌∙◌}
-use Rattle.dcsctp_transfer.specs.spec.endpoint.Endpoint.{closed, cookie_wait, cookie_echoed, open_in}
+use Rattle.dcsctp_transfer.specs.spec.endpoint.Endpoint.{closed}
 use Rattle.dcsctp_core.specs.declared.deadlines.DeadlineKind.TheVariants.{T1}
 use Rattle.dcsctp_core.specs.Listing.{with_entry}
 use Rattle.dcsctp_core.specs.Timeout.{ListsDeadlines}
 use Rattle.dcsctp_core.specs.View.{core_of, endpoint_of}
-use Rattle.dcsctp_core.proofs.TimeoutLemmas.{relisted_is_told}
+use Rattle.dcsctp_core.proofs.TimeoutLemmas.{relisted_is_told, lists_waiting, lists_echoed}
 use Rattle.dcsctp_core.proofs.timeout.list_deadlines.Goals as goal
 
 pub returns-in-Closed : goal.returns-in-Closed
@@ -14,15 +14,10 @@ returns-in-Closed g c =
 
 pub returns-in-CookieWait : goal.returns-in-CookieWait
 returns-in-CookieWait g c =
-    let e = endpoint_of c.args.context.now in
-    subst (ListsDeadlines e) (sym (c.add.ensures.added ∙ ap₂ (with_entry T1) c.t1_deadline.ensures c.clear.ensures)) (relisted_is_told e (cookie_wait _) (ap core_of c.in-CookieWait.is))
+    subst (ListsDeadlines (endpoint_of c.args.context.now)) (sym (c.add.ensures.added ∙ ap₂ (with_entry T1) c.next_expiry.ensures c.clear.ensures))
+    (lists_waiting c.args.context.now c.in-CookieWait.wait c.in-CookieWait.is)
 
 pub returns-in-CookieEchoed : goal.returns-in-CookieEchoed
 returns-in-CookieEchoed g c =
-    let e = endpoint_of c.args.context.now in
-    subst (ListsDeadlines e) (sym (c.add-in-CookieEchoed.ensures.added ∙ ap₂ (with_entry T1) c.t1_deadline-in-CookieEchoed.ensures c.clear.ensures)) (relisted_is_told e (cookie_echoed _ _ _) (ap core_of c.in-CookieEchoed.is))
-
-pub returns-in-Open : goal.returns-in-Open
-returns-in-Open g c =
-    let e = endpoint_of c.args.context.now in
-    subst (ListsDeadlines e) (sym (c.list_open.ensures)) (relisted_is_told e (open_in _ _ _) (ap core_of c.in-Open.is))
+    subst (ListsDeadlines (endpoint_of c.args.context.now)) (sym (c.add-in-CookieEchoed.ensures.added ∙ ap₂ (with_entry T1) c.next_expiry-in-CookieEchoed.ensures c.clear.ensures))
+    (lists_echoed c.args.context.now c.in-CookieEchoed.echoed c.in-CookieEchoed.is)

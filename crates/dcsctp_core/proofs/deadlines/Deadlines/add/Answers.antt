@@ -2,7 +2,7 @@ use Rattle.std.proofs.Common.{◌+◌, None, Some, arith, ap, subst, sym, ◌∙
 use Rattle.dcsctp_core.specs.Listing.{entries_with_one, rank, AllBelow, IsAbsent, IsListing}
 use Rattle.dcsctp_core.proofs.ListingLemmas.{listing-placed}
 use Rattle.dcsctp_core.proofs.RelistLemmas.{below-absent, below_added}
-use Rattle.dcsctp_core.proofs.SettingLemmas.{room}
+use Rattle.dcsctp_core.proofs.SevenLemmas.{room}
 use Rattle.dcsctp_core.proofs.deadlines.Deadlines.add.Goals as goal
 
 pub put_later-requires-clause-count : goal.put_later-requires-clause-count
