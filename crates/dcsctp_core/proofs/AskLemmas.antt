@@ -1,10 +1,10 @@
 -- What each step of a flush does, by whether an allocation failed.
 use Rattle.dcsctp_transfer.specs.spec.queues.SendQueue.{has_queued_data, SendQueueState}
 use Rattle.dcsctp_core.proofs.FirstLemmas.{Forwarded, BeforeData, fills_first, forwarded_where, transfer_is, before_data, begun_in_view, fills_behind, handed_of, until_of, same_view}
-use Rattle.dcsctp_core.specs.Flushing.{FillsAskedPacket, AcknowledgesInQueues, CutsAsk, AsksWith, FillsResetRequest, FillsWith, ForwardsInTime, HasNoData, KeepsSize, SendsUnlessEmpty, AddsFirstOfData, AddsFirstOfForward, TriesData, can_queues_send, packet_for}
+use Rattle.dcsctp_core.specs.Flushing.{AcknowledgesInQueues, CutsAsk, FillsResetRequest, FillsWith, ForwardsInTime, HasNoData, AddsFirstOfData, AddsFirstOfForward, TriesData, can_queues_send, packet_for}
 use Rattle.dcsctp_transfer.specs.Filling.{FillsRequestedSack, is_sack_wanted}
 use Rattle.std.proofs.Common.{◌≡◌, Bool, Err, IsOk, List, None, Ok, Option, Result, Some, [], ap, append_assoc, false, refl, subst, sym, true, ℕ, ◌++◌, ◌||◌, ◌∙◌}
-use Rattle.dcsctp_transfer.specs.spec.endpoint.FlushOutcomes.{Ask, FillsIfAllowed, filled_draft, first_ask, later_ask, may_abandon, may_forward, room_of_draft, stage_of}
+use Rattle.dcsctp_transfer.specs.spec.endpoint.FlushOutcomes.{FillsIfAllowed, filled_draft, first_ask, later_ask, may_abandon, may_forward, room_of_draft, stage_of}
 use Rattle.dcsctp_transfer.specs.wire_build.Building.{Building, bytes_remaining}
 use Rattle.dcsctp_transfer.specs.spec.Packet.{Emission}
 use Rattle.dcsctp_transfer.specs.spec.endpoint.Endpoint.{Endpoint}
@@ -12,15 +12,13 @@ use Rattle.dcsctp_transfer.specs.spec.endpoint.Event.{Event}
 use Rattle.dcsctp_transfer.proofs.spec_lemmas.FilledAnswers.{GivesUntilFull, answer_filling}
 use Rattle.dcsctp_transfer.specs.spec.queues.Abandoning.{GivesUpAll}
 use Rattle.dcsctp_transfer.specs.spec.queues.Retransmission.{RetransmissionState}
-use Rattle.rand_core.specs.Stream.{Stream}
 use Rattle.dcsctp_transfer.specs.spec.queues.Transfer.{Transfer, is_idle, may_give}
 use Rattle.dcsctp_core.specs.declared.context.Context.{Context}
 use Rattle.dcsctp_core.specs.declared.state.State.{State}
 use Rattle.dcsctp_core.specs.View.{View, endpoint_of, transfer_of, view_of}
 use Rattle.dcsctp_core.proofs.CutLemmas.{abandoning_completes, cut_untold, cut_within, gave_up_completes}
 use Rattle.std.proofs.lemmas.List.{append-nil}
-use Rattle.dcsctp_core.proofs.FlushLemmas.{ask_cut, asks_for}
-use Rattle.dcsctp_core.proofs.FillLemmas.{fills_later, idle_parts, idle_until, later_until, room_is_left, same_draft}
+use Rattle.dcsctp_core.proofs.FillLemmas.{idle_parts, idle_until, later_until, room_is_left, same_draft}
 
 -- ---- a later packet
 
@@ -29,7 +27,7 @@ busy_by : (b : Bool) (queue : SendQueueState) (transfer : Transfer) → is_idle 
 busy_by false queue transfer is not_idle = is
 busy_by true queue transfer is not_idle = absurd (not_idle is)
 
-later_cut : {R : Type 0} (found : Option Transfer) (old new : View R) (draft : Emission) (packet : Building) → old.endpoint.queues.transfer ≡ found → packet ≡ packet_for old.endpoint.options draft
+pub later_cut : {R : Type 0} (found : Option Transfer) (old new : View R) (draft : Emission) (packet : Building) → old.endpoint.queues.transfer ≡ found → packet ≡ packet_for old.endpoint.options draft
     → (HasNoData old.endpoint.queues.queue found → ⊥) → AddsFirstOfData found old packet new → CutsAsk later_ask old draft new.events
 later_cut None old new draft packet holds is some tells = cut_untold later_ask old draft new.events tells
 later_cut (Some transfer) old new draft packet holds is some tells =
@@ -40,12 +38,6 @@ later_cut (Some transfer) old new draft packet holds is some tells =
     (subst (λ (n : ℕ). FillsIfAllowed (may_give e.queues.queue transfer.retransmission) e.moment (stage_of e.queues.queue transfer.retransmission [] n) tells.sent) room tells.fills) in
     let busy : is_idle e.queues.queue transfer ≡ false = busy_by (is_idle e.queues.queue transfer) e.queues.queue transfer refl (λ idle. some (idle_parts e.queues.queue transfer idle).0) in
     cut_within later_ask old draft new.events u.sent.told tells.tells.front tells.tells.rest (answer_filling later_ask e draft transfer u holds busy) tells.tells.parts tells.tells.told
-
-pub later_returns : {R E : Type 0} (packet filled_draft : Building) (old : Context R) (result : Result (Unit {0}) E) (new : Context R) → TriesData packet old result new filled_draft
-    → (HasNoData old.send_queue (transfer_of old.state) → IsOk result) → FillsWith later_ask packet old result new filled_draft
-later_returns packet filled_draft old (Ok done) new h idle = λ draft is. fills_later (view_of old) draft (view_of new) packet filled_draft is h
-later_returns packet filled_draft old (Err error) new h idle =
-    λ draft is. later_cut (transfer_of old.state) (view_of old) (view_of new) draft packet refl is (λ none. cc (idle none)) h
 
 -- ---- a FORWARD-TSN
 
@@ -135,13 +127,3 @@ first_returns packet acked given_packet request_packet filled_draft old along st
 first_returns packet acked given_packet request_packet filled_draft old along state given begun (Err error) new is ack forward begin h idle =
     λ draft built. data_cut old (transfer_of old.state) along state draft packet acked given_packet request_packet (view_of given) (view_of begun) (view_of new) refl is built ack forward begin
     (λ none. cc (idle none)) h
-
--- ---- and then the packet is sent
-
-pub asks_returns : {R E : Type 0} (stream : R → Stream) (ask : Ask) (packet filled_draft : Building) (old mid : Context R) (result : Result Bool E) (new : Context R)
-    → ((draft : Emission) → packet ≡ packet_for old.options draft → FillsAskedPacket ask (view_of old) draft (view_of mid) filled_draft) → SendsUnlessEmpty filled_draft mid result new → KeepsSize filled_draft
-    → AsksWith stream ask packet old result new
-asks_returns stream ask packet filled_draft old mid (Ok is_sent) new fills sends size =
-    λ draft is. asks_for stream ask (view_of old) (view_of mid) (view_of new) draft filled_draft is_sent (fills draft is) size sends.0 sends.1
-asks_returns stream ask packet filled_draft old mid (Err error) new fills sends size =
-    λ draft is. ask_cut ask (view_of old) (view_of mid) (view_of new) draft filled_draft (fills draft is) size sends

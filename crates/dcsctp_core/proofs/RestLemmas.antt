@@ -1,8 +1,9 @@
 -- A flush for which no packet is made: there is nothing to put into one.
 use Rattle.dcsctp_transfer.specs.spec.queues.Filling.{none as no_step}
 use Rattle.std.proofs.lemmas.Bool.Decides.{nat_tests}
-use Rattle.std.proofs.Common.{◌≡◌, ◌&&◌, ◌||◌, ℕ, zero, suc, Bool, true, false, nat_lt, Option, None, Some, [], refl, sym, ap, subst, arith, inl}
+use Rattle.std.proofs.Common.{◌≡◌, ◌&&◌, ◌||◌, not, ℕ, zero, suc, Bool, true, false, nat_lt, Option, None, Some, List, [], ◌∷◌, refl, sym, ap, subst, arith, inl}
 use Rattle.rand_core.specs.Stream.{Stream}
+use Rattle.dcsctp_transfer.specs.Filling.{is_sack_wanted}
 use Rattle.dcsctp_transfer.specs.spec.queues.OwnResets.{ready_streams}
 use Rattle.dcsctp_transfer.specs.types.declared.association.Held.{Held}
 use Rattle.dcsctp_transfer.specs.spec.Packet.{Emission}
@@ -25,6 +26,18 @@ use Rattle.dcsctp_core.proofs.FlushLemmas.{flushes_none, flushes_last}
 use Rattle.dcsctp_core.proofs.LoopLemmas.{held_by_tcb, flush_no_peer}
 use Rattle.dcsctp_transfer.specs.spec.queues.Filling.{Stage}
 use Rattle.dcsctp_transfer.proofs.spec_lemmas.DueItemLemmas.{none_due}
+
+-- ---- what is asked before a flush
+
+none_ready : (is_some : Bool) (streams : List ℕ) → is_some ≡ not (is_none_ready streams) → is_some ≡ false → is_none_ready streams ≡ true
+none_ready is_some [] is none = refl
+none_ready is_some (stream ∷ streams) is none = absurd (cc)
+
+pub needs_none : (queue : SendQueueState) (transfer : Transfer) (along is_some : Bool) → along ≡ (has_queued_data queue || can_send transfer.retransmission)
+    → (is_sack_wanted along transfer ≡ false) × (is_first_abandoned transfer.retransmission.outstanding.items ≡ false) × (may_give queue transfer.retransmission ≡ false)
+    → is_some ≡ not (is_none_ready (ready_streams queue)) → is_some ≡ false → NeedsNone first_ask queue (Some transfer)
+needs_none queue transfer along is_some along_is needs some none =
+    (subst (λ (b : Bool). is_sack_wanted b transfer ≡ false) along_is needs.0, λ first. none_ready is_some (ready_streams queue) some none, λ first. needs.1, needs.2)
 
 -- ---- there is nothing to give
 

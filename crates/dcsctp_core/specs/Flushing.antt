@@ -187,11 +187,6 @@ pub record AsksFor {R : Type 0} (stream : R → Stream) (ask : Ask) (old : View 
   pub goes : is_sent ≡ not (is_none (filled_draft draft (answer_contents answer)).packet.contents)
   pub moves : Moves stream old (asked_outcome old.endpoint draft answer) new
 
-abbrev pub AsksWith : {R E : Type 0} → (R → Stream) → Ask → Building → Context R → Result Bool E → Context R → Type 0
-AsksWith stream ask packet old result new =
-    ByResult (λ is_sent. (draft : Emission) → packet ≡ packet_for old.options draft → AsksFor stream ask (view_of old) draft is_sent (view_of new))
-    ((draft : Emission) → packet ≡ packet_for old.options draft → CutsAsk ask (view_of old) draft (view_of new).events) result
-
 -- If an allocation failed for data, the first events of some such filling were added.
 abbrev pub AddsFirstOfData : {R : Type 0} → Option Transfer → View R → Building → View R → Type 0
 AddsFirstOfData None old packet new = new.events ≡ old.events

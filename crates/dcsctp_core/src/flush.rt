@@ -1,21 +1,20 @@
 //! A flush: what waits is sent, in as many packets as are allowed (RFC 9260, section 6.1).
 
-ghost use Rattle.std.specs.Prelude.{◌≡◌, ◌&&◌, ◌||◌, false, Some, IsOk};
+ghost use Rattle.std.specs.Prelude.{◌≡◌, ◌&&◌, ◌||◌, IsOk};
 ghost use Rattle.dcsctp_transfer.specs.spec.endpoint.Endpoint.{is_cookie_echoed};
 ghost use Rattle.dcsctp_transfer.specs.spec.queues.SendQueue.{has_queued_data};
-ghost use Rattle.dcsctp_transfer.specs.spec.endpoint.FlushOutcomes.{packets_allowed, first_ask, later_ask, forward_moment};
-ghost use Rattle.dcsctp_core.specs.View.{core_of, transfer_of, endpoint_of, view_of};
+ghost use Rattle.dcsctp_transfer.specs.spec.endpoint.FlushOutcomes.{packets_allowed, first_ask};
+ghost use Rattle.dcsctp_core.specs.View.{core_of, transfer_of};
 ghost use Rattle.dcsctp_core.specs.Below.{FlushesAtOnce};
-ghost use Rattle.dcsctp_core.specs.Flushing.{Flushes, FlushesFurther, AsksWith, FillsWith, TriesForward, TriesReset, TriesData, HasNoData, HasNoReset, NeedsNone, can_queues_send, SendsUnlessEmpty, KeepsSize};
+ghost use Rattle.dcsctp_core.specs.Flushing.{Flushes, FlushesFurther, FillsWith, TriesForward, TriesReset, TriesData, HasNoData, HasNoReset, can_queues_send, SendsUnlessEmpty, KeepsSize};
 ghost use Rattle.dcsctp_core.specs.Handling.{TakesOne, SendsQueued};
 
 use crate::context::Context;
 use crate::resetting::RequestStart;
 use crate::spares::take_spare;
 use crate::state::State;
-use dcsctp_transfer::api::{Options, SocketTime};
+use dcsctp_transfer::api::Options;
 use dcsctp_transfer::wire_build::SctpPacketBuilder;
-use dcsctp_transfer::{SendQueue, Transfer};
 use rand_core::Rng;
 use std::alloc::AllocError;
 
@@ -34,16 +33,6 @@ fn packets_allowed(options: &Options, state: &State) -> u32
     }
 }
 
-// May anything go into the first packet of a flush: a SACK, a FORWARD-TSN, the request of a reset, or data? A
-// delayed SACK is sent along if data may follow.
-#[inline(always)]
-fn may_fill_first(transfer: &Transfer, queue: &SendQueue) -> bool
-    ensures { result ≡ false → NeedsNone first_ask queue.now (Some transfer.now) }
-{
-    let may_follow = queue.has_data_to_send() || transfer.can_send_data();
-    transfer.may_fill_first(queue, may_follow) || queue.has_streams_ready_to_be_reset()
-}
-
 impl<R: Rng> Context<R> {
     /// A flush: what waits is sent under the peer's tag, if the peer is known.
     ///
@@ -51,11 +40,14 @@ impl<R: Rng> Context<R> {
     pub fn send_buffered_packets(&mut self) -> Result<(), AllocError>
         ensures { TakesOne R.stream SendsQueued self.old result self.new }
     {
+        let may_follow = self.may_send_data();
         let Some(tcb) = self.state.tcb() else {
             return Ok(());
         };
-        // So that hardly a packet is made that would stay empty.
-        if !may_fill_first(&tcb.transfer, &self.send_queue) {
+        // So that hardly a packet is made that would stay empty. A delayed SACK is sent along if data may follow.
+        if !tcb.transfer.may_fill_first(&self.send_queue, may_follow)
+            && !self.send_queue.has_streams_ready_to_be_reset()
+        {
             return Ok(());
         }
         let packet = tcb.new_packet_in(self.alloc, take_spare(&self.events), &self.options)?;
@@ -77,7 +69,9 @@ impl<R: Rng> Context<R> {
         if allowed == 0 {
             return Ok(());
         }
-        if !self.send_first(packet)? {
+        let mut packet = packet;
+        self.fill_first(&mut packet)?;
+        if !self.send_unless_empty(packet)? {
             return Ok(());
         }
         self.send_further(allowed - 1)
@@ -114,32 +108,15 @@ impl<R: Rng> Context<R> {
             if !tcb.transfer.may_fill(&self.send_queue) {
                 return Ok(());
             }
-            let packet = tcb.new_packet_in(self.alloc, take_spare(&self.events), &self.options)?;
-            if !self.send_later(packet)? {
+            let block = take_spare(&self.events);
+            let mut packet = tcb.new_packet_in(self.alloc, block, &self.options)?;
+            self.fill_with_data(&mut packet)?;
+            if !self.send_unless_empty(packet)? {
                 return Ok(());
             }
             left -= 1;
         }
         Ok(())
-    }
-
-    // Sends the first packet of a flush, unless it is still empty after it was filled. Returns whether it was
-    // sent.
-    fn send_first(&mut self, packet: SctpPacketBuilder) -> Result<bool, AllocError>
-        ensures { AsksWith R.stream first_ask packet self.old result self.new }
-    {
-        let mut packet = packet;
-        self.fill_first(&mut packet)?;
-        self.send_unless_empty(packet)
-    }
-
-    // The same for a later one.
-    fn send_later(&mut self, packet: SctpPacketBuilder) -> Result<bool, AllocError>
-        ensures { AsksWith R.stream later_ask packet self.old result self.new }
-    {
-        let mut packet = packet;
-        self.fill_later(&mut packet)?;
-        self.send_unless_empty(packet)
     }
 
     // Puts into the first packet a SACK, a FORWARD-TSN, the request of a reset, and then data.
@@ -198,21 +175,10 @@ impl<R: Rng> Context<R> {
             self.moment,
             packet,
         )?;
-        self.delay_forward_tsn(next);
-        Ok(())
-    }
-
-    // The next FORWARD-TSN is sent no sooner than at this moment, if there is one.
-    fn delay_forward_tsn(&mut self, next: Option<SocketTime>)
-        ensures { view_of self.new ≡ record (view_of self.old) {
-          endpoint = record (endpoint_of self.old) {
-            no_forward_tsn_before = forward_moment next self.old.no_forward_tsn_before;
-          };
-        } }
-    {
         if let Some(next) = next {
             self.no_forward_tsn_before = next;
         }
+        Ok(())
     }
 
     // May data follow: does some wait, or do the windows allow it?
@@ -226,13 +192,6 @@ impl<R: Rng> Context<R> {
             Some(tcb) => tcb.transfer.can_send_data(),
         };
         self.send_queue.has_data_to_send() || can_send
-    }
-
-    // Puts data into a later packet.
-    fn fill_later(&mut self, packet: &mut SctpPacketBuilder) -> Result<(), AllocError>
-        ensures { FillsWith later_ask packet.old self.old result self.new packet.new }
-    {
-        self.fill_with_data(packet)
     }
 
     // Puts data into a packet. If there is some, the heartbeat interval restarts (RFC 9260, section 8.3).
