@@ -112,7 +112,6 @@ pub enum State {
 impl OpenPhase {
     ghost use Rattle.std.specs.Prelude.{◌≡◌};
     ghost use Rattle.dcsctp_transfer.specs.spec.endpoint.Endpoint.{phase_of};
-    ghost use Rattle.dcsctp_transfer.specs.spec.endpoint.MessageOutcomes.{is_phase_shutting_down};
     ghost use Rattle.dcsctp_transfer.specs.api.Calls.{open_state};
     ghost use Rattle.dcsctp_core.specs.View.{phase_of_open};
 
@@ -126,17 +125,6 @@ impl OpenPhase {
             OpenPhase::ShutdownSent(_) => Phase::ShutdownSent,
             OpenPhase::ShutdownReceived => Phase::ShutdownReceived,
             OpenPhase::ShutdownAckSent(_) => Phase::ShutdownAckSent,
-        }
-    }
-
-    /// Is the association being shut down?
-    fn is_shutting_down(&self) -> bool
-        ensures { result ≡ is_phase_shutting_down (phase_of_open self.now) }
-    {
-        match self {
-            OpenPhase::Established => false,
-            OpenPhase::ShutdownPending | OpenPhase::ShutdownSent(_) => true,
-            OpenPhase::ShutdownReceived | OpenPhase::ShutdownAckSent(_) => true,
         }
     }
 
@@ -330,7 +318,11 @@ impl State {
         match self {
             State::Closed => false,
             State::CookieWait(_) | State::CookieEchoed(_) => false,
-            State::Open(opened) => opened.phase.is_shutting_down(),
+            State::Open(opened) => match opened.phase {
+                OpenPhase::Established => false,
+                OpenPhase::ShutdownPending | OpenPhase::ShutdownSent(_) => true,
+                OpenPhase::ShutdownReceived | OpenPhase::ShutdownAckSent(_) => true,
+            },
         }
     }
 

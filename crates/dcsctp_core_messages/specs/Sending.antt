@@ -7,8 +7,8 @@ use Rattle.dcsctp_core.specs.types.declared.ids.LifecycleId.{LifecycleId}
 use Rattle.dcsctp_core.specs.types.Ids.{lifecycle_number}
 use Rattle.dcsctp_core.specs.spec.endpoint.Event.{Event, lifecycle_end}
 use Rattle.dcsctp_core.specs.spec.Packet.{Emission}
-use Rattle.dcsctp_core.specs.spec.endpoint.Outcome.{Outcome, still, quiet}
-use Rattle.dcsctp_core.specs.spec.endpoint.MessageOutcomes.{MessageRefusal, sending_refusal, refusal_events, Sending, message_queued, queue_one, queue_all, refused_from, takes_any, SendTurn}
+use Rattle.dcsctp_core.specs.spec.endpoint.Outcome.{Outcome, quiet}
+use Rattle.dcsctp_core.specs.spec.endpoint.MessageOutcomes.{MessageRefusal, sending_refusal, refusal_events, Sending, queue_one, queue_all, refused_from, takes_any, SendTurn}
 use Rattle.dcsctp_core.specs.api.declared.errors.BatchSendError.{BatchSendError}
 use Rattle.dcsctp_core.specs.api.declared.errors.SendError.{SendError}
 use Rattle.dcsctp_core.specs.api.Messages.{refusal_of, refusal_of_answer, refused_messages, IsBatchAnswer}
@@ -31,9 +31,6 @@ abbrev pub message_refusal_turn : {R : Type 0} → MessageRefusal → Option Lif
 message_refusal_turn refusal id view = quiet view.endpoint [] (refusal_events refusal (option_map lifecycle_number id))
 
 -- ---- a message that is taken or refused
-
-abbrev pub queued_turn : {R : Type 0} → Sending → View R → Outcome
-queued_turn message view = still (message_queued view.endpoint message)
 
 -- The message was taken or refused; or an allocation failed, and the first of its events may have been added.
 abbrev pub Queues : {R E : Type 0} → (R → Stream) → Sending → Context R → Result (Option SendError) E → Context R → Type 0

@@ -1,10 +1,9 @@
 //! Messages that enter the send queue, or are refused.
 
-ghost use Rattle.std.specs.Prelude.{◌<◌, vec_len, map};
+ghost use Rattle.std.specs.Prelude.{map};
 ghost use Rattle.dcsctp_core.specs.types.queues.Messages.{message_content};
 ghost use Rattle.dcsctp_core.specs.spec.endpoint.MessageOutcomes.{sending_of};
-ghost use Rattle.dcsctp_core.specs.Handling.{Tries};
-ghost use Rattle.dcsctp_core_messages.specs.Sending.{queued_turn, Queues, QueuesAndRecords, QueuesAll, queueing};
+ghost use Rattle.dcsctp_core_messages.specs.Sending.{Queues, QueuesAndRecords, QueuesAll, queueing};
 
 use crate::refusal::{refusal, tell_refusal};
 use dcsctp_core::Context;
@@ -20,21 +19,6 @@ pub(crate) struct QueuedAll {
 
     /// Was one of them taken?
     pub has_taken: bool,
-}
-
-// Adds an accepted message to the queue. `Err`: an allocation failed, and nothing has changed.
-fn add_message<R: Rng>(
-    context: &mut Context<R>,
-    message: Message,
-    options: &SendOptions,
-) -> Result<(), AllocError>
-    requires { 0 < vec_len message.payload }
-    ensures { Tries R.stream (queued_turn (sending_of options.now (message_content message)))
-        context.old result context.new }
-{
-    context.send_queue.add(context.moment, message, options)?;
-    context.count_message();
-    Ok(())
 }
 
 /// Adds a message to the queue, or refuses it and reports that. Returns why it is refused.
@@ -54,7 +38,8 @@ pub(crate) fn queue_message<R: Rng>(
             Ok(Some(error))
         }
         None => {
-            add_message(context, message, options)?;
+            context.send_queue.add(context.moment, message, options)?;
+            context.count_message();
             Ok(None)
         }
     }

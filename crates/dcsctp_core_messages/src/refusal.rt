@@ -2,7 +2,7 @@
 
 ghost use Rattle.std.specs.Prelude.{◌≡◌};
 ghost use Rattle.std.specs.Option.{option_map};
-ghost use Rattle.dcsctp_core.specs.spec.endpoint.MessageOutcomes.{message_refusal, refusal_kind, message_refusal_text, is_full};
+ghost use Rattle.dcsctp_core.specs.spec.endpoint.MessageOutcomes.{message_refusal, refusal_kind, message_refusal_text};
 ghost use Rattle.dcsctp_core.specs.api.Messages.{refusal_of};
 ghost use Rattle.dcsctp_core.specs.View.{endpoint_of};
 ghost use Rattle.dcsctp_core.specs.Handling.{TakesTurn, Tries, report_turn};
@@ -33,21 +33,13 @@ pub(crate) fn refusal<R: Rng>(
     if context.state.is_shutting_down() || context.awaits_opening() {
         return Some(SendError::ShuttingDown);
     }
-    if has_no_room(context, stream_id) {
+    let queue = &context.send_queue;
+    if context.options.max_send_buffer_size <= queue.total_buffered_amount()
+        || context.options.per_stream_send_queue_limit <= queue.buffered_amount(stream_id)
+    {
         return Some(SendError::ResourceExhaustion);
     }
     None
-}
-
-// Is the send buffer full, in all or for this stream?
-fn has_no_room<R: Rng>(context: &Context<R>, stream_id: StreamId) -> bool
-    ensures { result
-        ≡ is_full (endpoint_of context.now).options (endpoint_of context.now).queues.queue
-        stream_id.0 }
-{
-    context.options.max_send_buffer_size <= context.send_queue.total_buffered_amount()
-        || context.options.per_stream_send_queue_limit
-            <= context.send_queue.buffered_amount(stream_id)
 }
 
 // Reports the end of the message of this name, if it has one. `Err`: an allocation failed, and nothing has
