@@ -1,20 +1,12 @@
-//! Tests of `dcsctp_api` and `dcsctp_send_timer` by their public calls: what a socket is made of. Their
-//! values come from outside, or were computed by hand.
+//! Tests of formats and small types by their public calls: packets, control messages of channels, snapshots, and what
+//! a socket is made of. Their values come from outside, or were computed by hand.
 #![tactic(auto)]
 
 #[cfg(test)]
-mod checks;
+mod api;
 #[cfg(test)]
-mod cookies;
+mod channel_messages;
 #[cfg(test)]
-mod events;
+mod snapshot_bytes;
 #[cfg(test)]
-mod identifiers;
-#[cfg(test)]
-mod moments;
-#[cfg(test)]
-mod options;
-#[cfg(test)]
-mod sending;
-#[cfg(test)]
-mod snapshots;
+mod wire;

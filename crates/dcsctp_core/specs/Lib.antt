@@ -3,7 +3,6 @@ pub use Rattle.dcsctp_transfer.specs.wire_build as wire_build
 pub use Rattle.dcsctp_transfer.specs.types as types
 pub use Rattle.dcsctp_transfer.specs.spec as spec
 pub use Rattle.dcsctp_transfer.specs.api as api
-pub use Rattle.dcsctp_transfer.specs.send_streams as send_streams
 pub use Rattle.dcsctp_transfer.specs.send_queue as send_queue
 pub use Rattle.dcsctp_transfer.specs.receive_reassembly as receive_reassembly
 pub use Rattle.dcsctp_transfer.specs as transfer

@@ -14,7 +14,7 @@ use Rattle.dcsctp_core.specs.spec.endpoint.Endpoint.{Endpoint, held_by_core}
 use Rattle.dcsctp_core.specs.spec.endpoint.Outcome.{Outcome, still, then_outcome}
 use Rattle.dcsctp_core.specs.spec.endpoint.DataOutcomes.{flush_to_peer, FlushTurn}
 use Rattle.dcsctp_core.specs.spec.endpoint.PreparedResets.{ResetRefusal, reset_refusal, endpoint_with_queue, PreparesUnlessRefused, OwnResetsTurn}
-use Rattle.dcsctp_core.specs.send_streams.Telling.{contents, AddsFront}
+use Rattle.dcsctp_core.specs.send_queue.Telling.{contents, AddsFront}
 use Rattle.dcsctp_core.specs.send_queue.Preparing.{PreparesStream, TriesStream}
 use Rattle.dcsctp_core.specs.declared.context.Context.{Context}
 use Rattle.dcsctp_core.specs.View.{View, view_of}

@@ -4,7 +4,7 @@ use Rattle.std.proofs.lemmas.List.{length-take, length-drop}
 use Rattle.dcsctp_api.specs.types.declared.sending.UnderWay.{UnderWay}
 use Rattle.dcsctp_api.specs.types.queues.SendStreams.{Waiting}
 use Rattle.dcsctp_api.specs.spec.queues.Sending.{Fragment, fragment, size_produced}
-use Rattle.dcsctp_send_streams.specs.Fragment.{HasSize}
+use Rattle.dcsctp_send_queue.specs.Fragment.{HasSize}
 
 -- one byte at least where some are left, and at most as many as are asked for
 pub has_size : (part : Fragment) (message : Waiting) (u : UnderWay) (max : ℕ) → part ≡ fragment u message (size_produced max message u) → u.sent < length message.payload → 0 < max → HasSize max part

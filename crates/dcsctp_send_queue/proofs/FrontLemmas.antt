@@ -1,7 +1,7 @@
 -- Lemmas on the first part of a list of events.
 use Rattle.std.proofs.Common.{◌≡◌, ◌∙◌, ℕ, List, ◌++◌, append_assoc, sym, ap}
 use Rattle.dcsctp_api.specs.spec.endpoint.Event.{Event}
-use Rattle.dcsctp_send_streams.specs.Telling.{AddsFront}
+use Rattle.dcsctp_send_queue.specs.Telling.{AddsFront}
 
 -- more was to follow
 pub front_left : (before whole more after : List (Event (List ℕ))) → AddsFront before whole after → AddsFront before (whole ++ more) after

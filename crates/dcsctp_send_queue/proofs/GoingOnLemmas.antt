@@ -6,10 +6,10 @@ use Rattle.dcsctp_api.specs.spec.endpoint.Event.{Event}
 use Rattle.dcsctp_api.specs.spec.queues.SendQueue.{SendQueueState, stream_changed, with_stream, used_streams, IsUnderWay, CanGoOn}
 use Rattle.dcsctp_api.specs.types.declared.sending.UnderWay.{UnderWay}
 use Rattle.dcsctp_api.specs.types.queues.SendStreams.{Waiting, Stream, unused_stream, front_of, stream_counted, served_stream, stream_at, IsAscending}
-use Rattle.dcsctp_send_streams.specs.Ranking.{IsFound}
+use Rattle.dcsctp_send_queue.specs.Ranking.{IsFound}
 use Rattle.dcsctp_api.specs.spec.queues.Sending.{Chooses, IsMessageUnderWay, Drops, none, more, reduced_queue, next_turn, begun_message_counted, after_part, after_last, queue_after_producing, is_last}
-use Rattle.dcsctp_send_streams.proofs.StreamLemmas.{stream_at-set, length-set_at}
-use Rattle.dcsctp_send_streams.proofs.NextLemmas.{same_place}
+use Rattle.dcsctp_send_queue.proofs.StreamLemmas.{stream_at-set, length-set_at}
+use Rattle.dcsctp_send_queue.proofs.NextLemmas.{same_place}
 use Rattle.dcsctp_send_queue.proofs.QueueLemmas.{less_test, not_less_test, changed_at, used_found, lost_after, used_lost, changed_insert, stream_at-either, under_way_set}
 
 -- a change of a stream that keeps its number and its oldest message

@@ -8,3 +8,15 @@ pub mod ReadyLemmas
 pub mod ResetLemmas
 pub mod RestoringLemmas
 pub mod WaitingLemmas
+pub mod BoxLemmas
+pub mod BytesLemmas
+pub mod CountLemmas
+pub mod HandedOutLemmas
+pub mod Mapped
+pub mod NextLemmas
+pub mod PauseLemmas
+pub mod PausedLemmas
+pub mod PlaceLemmas
+pub mod StreamLemmas
+pub mod TellingLemmas
+pub mod TurnLemmas

@@ -4,9 +4,9 @@ use Rattle.std.proofs.lemmas.Bool.Decides.{nat_tests}
 use Rattle.dcsctp_api.specs.spec.queues.Transfer.{is_none_ready}
 use Rattle.dcsctp_api.specs.types.declared.sending.UnderWay.{UnderWay}
 use Rattle.dcsctp_api.specs.types.queues.SendStreams.{Stream, is_pausing, stream_at, IsAscending}
-use Rattle.dcsctp_send_streams.specs.Ranking.{count_pausing, IsFound}
-use Rattle.dcsctp_send_streams.proofs.CountLemmas.{one_pausing, count-cons}
-use Rattle.dcsctp_send_streams.proofs.NextLemmas.{absent_at}
+use Rattle.dcsctp_send_queue.specs.Ranking.{count_pausing, IsFound}
+use Rattle.dcsctp_send_queue.proofs.CountLemmas.{one_pausing, count-cons}
+use Rattle.dcsctp_send_queue.proofs.NextLemmas.{absent_at}
 use Rattle.dcsctp_api.specs.spec.queues.OwnResets.{is_under_way, is_ready}
 use Rattle.dcsctp_send_queue.proofs.QueueLemmas.{same_test, other_test, IsBelow-out}
 use Rattle.dcsctp_send_queue.proofs.ReadyLemmas.{ready_ids}

@@ -4,7 +4,7 @@ use Rattle.dcsctp_api.specs.spec.queues.SendQueue.{SendQueueState, front_counted
 use Rattle.dcsctp_api.specs.spec.queues.Sending.{begun_message_counted, next_turn}
 use Rattle.dcsctp_api.specs.types.declared.sending.UnderWay.{UnderWay}
 use Rattle.dcsctp_api.specs.types.queues.SendStreams.{Stream, unused_stream, stream_counted, served_stream, stream_at, IsAscending}
-use Rattle.dcsctp_send_streams.specs.Ranking.{IsFound}
+use Rattle.dcsctp_send_queue.specs.Ranking.{IsFound}
 use Rattle.dcsctp_send_queue.proofs.QueueLemmas.{changed_at, stream_found-at}
 
 -- a stream that was changed is changed again

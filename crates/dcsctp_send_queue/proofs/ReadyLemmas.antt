@@ -4,12 +4,12 @@ use Rattle.dcsctp_api.specs.types.Ids.{stream_numbers}
 use Rattle.dcsctp_api.specs.types.declared.ids.StreamId.{StreamId}
 use Rattle.dcsctp_api.specs.types.declared.sending.UnderWay.{UnderWay}
 use Rattle.dcsctp_api.specs.types.queues.SendStreams.{Stream, is_pausing, handed_out}
-use Rattle.dcsctp_send_streams.specs.Ranking.{IsFound}
+use Rattle.dcsctp_send_queue.specs.Ranking.{IsFound}
 use Rattle.dcsctp_api.specs.spec.queues.SendQueue.{stream_changed, CanGoOn}
 use Rattle.dcsctp_api.specs.spec.queues.OwnResets.{is_under_way, count_under_way, is_ready, handing_out}
-use Rattle.dcsctp_send_streams.specs.Pausing.{pausing_ids}
-use Rattle.dcsctp_send_streams.proofs.NextLemmas.{absent_at}
-use Rattle.dcsctp_send_streams.proofs.PausedLemmas.{true_less, false_less}
+use Rattle.dcsctp_send_queue.specs.Pausing.{pausing_ids}
+use Rattle.dcsctp_send_queue.proofs.NextLemmas.{absent_at}
+use Rattle.dcsctp_send_queue.proofs.PausedLemmas.{true_less, false_less}
 use Rattle.dcsctp_send_queue.proofs.ResetLemmas.{can_go_on-map, changed_absent}
 
 -- no stream has this number

@@ -6,13 +6,13 @@ use Rattle.dcsctp_api.specs.types.declared.sending.UnderWay.{UnderWay}
 use Rattle.dcsctp_api.specs.types.queues.SendStreams.{Waiting, Stream, unused_stream, front_of, amount_raised, paused_stream, committed_stream, rolled_back, stream_at, IsAscending}
 use Rattle.dcsctp_api.specs.types.declared.sending.Pause.{Pause}
 use Rattle.dcsctp_api.specs.types.declared.sending.Pause.TheVariants.{Open, Pausing, HandedOut}
-use Rattle.dcsctp_send_streams.specs.Ranking.{IsFound}
+use Rattle.dcsctp_send_queue.specs.Ranking.{IsFound}
 use Rattle.dcsctp_send_queue.specs.declared.backlog.Backlog.{Backlog}
 use Rattle.dcsctp_send_queue.specs.Backlog.{queue_of}
 use Rattle.dcsctp_api.specs.spec.queues.OwnResets.{prepared_stream, prepared_open, prepared_queue, prepare_events_of, is_open_pause, dropped_size, count_under_way}
 use Rattle.dcsctp_send_queue.specs.Leaving.{DropsSome, pause_events, after_pause, size_not_begun}
 use Rattle.dcsctp_api.specs.spec.queues.Sending.{none}
-use Rattle.dcsctp_send_streams.proofs.StreamLemmas.{stream_at-set, length-set_at}
+use Rattle.dcsctp_send_queue.proofs.StreamLemmas.{stream_at-set, length-set_at}
 use Rattle.dcsctp_send_queue.proofs.QueueLemmas.{same_test, other_test, changed_at, stream_found-at, stream_at-either, under_way_set}
 use Rattle.dcsctp_send_queue.proofs.GoingOnLemmas.{map_at, map_length}
 

@@ -4,13 +4,13 @@ use Rattle.dcsctp_api.specs.types.declared.sending.Pause.{Pause}
 use Rattle.dcsctp_api.specs.types.declared.sending.Pause.TheVariants.{Open, Pausing, HandedOut}
 use Rattle.dcsctp_api.specs.types.declared.sending.Turn.{Turn}
 use Rattle.dcsctp_api.specs.types.queues.SendStreams.{Waiting, Stream, front_of, without_front, stream_at, turn_if, IsNext, IsAscending}
-use Rattle.dcsctp_send_streams.specs.Ranking.{IsFound}
+use Rattle.dcsctp_send_queue.specs.Ranking.{IsFound}
 use Rattle.dcsctp_api.specs.spec.queues.SendQueue.{SendQueueState, IsUnderWay}
 use Rattle.dcsctp_api.specs.spec.queues.Sending.{without_rest}
 use Rattle.dcsctp_send_queue.specs.Leaving.{HasUnsentBytes, HasMore}
 use Rattle.dcsctp_api.specs.types.declared.sending.UnderWay.{UnderWay}
-use Rattle.dcsctp_send_streams.proofs.StreamLemmas.{stream_at-set, length-set_at}
-use Rattle.dcsctp_send_streams.proofs.NextLemmas.{same_place, absent_at}
+use Rattle.dcsctp_send_queue.proofs.StreamLemmas.{stream_at-set, length-set_at}
+use Rattle.dcsctp_send_queue.proofs.NextLemmas.{same_place, absent_at}
 
 -- how many messages the streams have together
 abbrev pub count_messages : List Stream → ℕ

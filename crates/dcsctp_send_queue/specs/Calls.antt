@@ -5,7 +5,7 @@ use Rattle.dcsctp_api.specs.types.declared.sending.UnderWay.{UnderWay}
 use Rattle.dcsctp_api.specs.types.queues.SendStreams.{Waiting, front_of, is_expired, stream_at, IsNext}
 use Rattle.dcsctp_api.specs.spec.queues.SendQueue.{SendQueueState}
 use Rattle.dcsctp_api.specs.spec.queues.Sending.{Chooses, Drops, drop_events, produced_events, IsMessageUnderWay}
-use Rattle.dcsctp_send_streams.specs.Telling.{AddsFront}
+use Rattle.dcsctp_send_queue.specs.Telling.{AddsFront}
 
 -- The message that is dropped next, and the events about it. No message is under way.
 pub record DropsNext (now : ℕ) (queue : SendQueueState) (events : List (Event (List ℕ))) : Type 0 where

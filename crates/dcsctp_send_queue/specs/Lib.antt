@@ -3,3 +3,10 @@ pub mod Calls
 pub mod Leaving
 pub mod Resets
 pub mod Preparing
+pub mod Boxes
+pub mod Fragment
+pub mod Lending
+pub mod Pausing
+pub mod Ranking
+pub mod Telling
+pub mod Turns

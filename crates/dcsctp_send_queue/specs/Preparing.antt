@@ -4,7 +4,7 @@ use Rattle.dcsctp_api.specs.types.ByResult.{ByResult}
 use Rattle.dcsctp_api.specs.spec.endpoint.Event.{Event}
 use Rattle.dcsctp_api.specs.spec.queues.OwnResets.{queue_with_prepared, prepare_events}
 use Rattle.dcsctp_api.specs.spec.queues.SendQueue.{SendQueueState}
-use Rattle.dcsctp_send_streams.specs.Telling.{AddsFront}
+use Rattle.dcsctp_send_queue.specs.Telling.{AddsFront}
 
 -- The stream was prepared, and its events were added.
 pub record PreparesStream (id : ℕ) (old : SendQueueState) (before : List (Event (List ℕ))) (new : SendQueueState) (after : List (Event (List ℕ))) : Type 0 where

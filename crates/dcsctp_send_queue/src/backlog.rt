@@ -8,8 +8,8 @@ mod producing;
 mod resetting;
 mod restoring;
 
+use crate::{OutgoingStream, QueuedMessage, Streams, UnderWay};
 use dcsctp_api::{Events, SocketEvent, SocketTime, StreamId};
-use dcsctp_send_streams::{OutgoingStream, QueuedMessage, Streams, UnderWay};
 use std::alloc::{AllocError, Global};
 
 // Does an amount that falls by that much fall from above its threshold to it or below?
@@ -53,8 +53,8 @@ impl Backlog {
     ghost use Rattle.dcsctp_api.specs.spec.endpoint.SettingOutcomes.{set_in_queue};
     ghost use Rattle.std.specs.Prelude.{◌≡◌, ◌==◌, ◌+◌, ◌-◌, ◌<◌, ◌++◌, length, Some, None, Ok, Err, OnOk, OnErr, IfOk, IfSome};
     ghost use Rattle.dcsctp_api.specs.types.queues.SendStreams.{Waiting, unused_stream, front_of, with_message, stream_at, IsAscending};
-    ghost use Rattle.dcsctp_send_streams.specs.Telling.{contents, AddsFront};
-    ghost use Rattle.dcsctp_send_streams.specs.Ranking.{IsFound};
+    ghost use Rattle.dcsctp_send_queue.specs.Telling.{contents, AddsFront};
+    ghost use Rattle.dcsctp_send_queue.specs.Ranking.{IsFound};
     ghost use Rattle.dcsctp_api.specs.spec.queues.Sending.{reduced_queue, without_rest, drop_events, part_events};
     ghost use Rattle.dcsctp_send_queue.specs.Leaving.{HasMore, HasUnsentBytes};
 

@@ -4,9 +4,9 @@
 ghost use Rattle.std.specs.Prelude.{◌<◌};
 
 use crate::backlog::Backlog;
+use crate::{DataToSend, QueuedMessage, Streams};
 use dcsctp_api::types::{HandoverReadiness, HandoverTransmission};
 use dcsctp_api::{Events, Message, Options, SendOptions, SocketTime, StreamId};
-use dcsctp_send_streams::{DataToSend, QueuedMessage, Streams};
 use std::alloc::{AllocError, Global};
 use std::marker::Model;
 
@@ -42,13 +42,13 @@ impl SendQueue {
     ghost use Rattle.std.specs.List.{list_all};
     ghost use Rattle.dcsctp_api.specs.types.queues.Messages.{message_content};
     ghost use Rattle.dcsctp_api.specs.spec.queues.OwnResets.{waits_for_reset, queue_committed, queue_rolled_back, queue_handing_out, ready_streams, handing_out, queue_with_prepared, prepare_events};
-    ghost use Rattle.dcsctp_send_streams.specs.Fragment.{HasSize};
+    ghost use Rattle.dcsctp_send_queue.specs.Fragment.{HasSize};
     ghost use Rattle.std.specs.Prelude.{◌≡◌, ◌+◌, ◌-◌, ◌<◌, ◌++◌, vec_len, true, IfSome, OnOk, OnErr, IfOk, take, not};
     ghost use Rattle.dcsctp_api.specs.spec.queues.SendQueue.{empty_queue, IsWellFormed, queue_restarted, has_queued_data, has_waiting_message, stream_changed, used_streams, queue_stream, numbered_for, queued_message, with_added, may_send, with_threshold, with_priority};
     ghost use Rattle.dcsctp_api.specs.spec.queues.Transfer.{is_none_ready};
     ghost use Rattle.dcsctp_api.specs.types.Setting.{stream_priority, stream_low_threshold};
     ghost use Rattle.dcsctp_api.specs.spec.endpoint.SettingOutcomes.{set_in_queue};
-    ghost use Rattle.dcsctp_send_streams.specs.Telling.{contents, AddsFront};
+    ghost use Rattle.dcsctp_send_queue.specs.Telling.{contents, AddsFront};
     ghost use Rattle.dcsctp_api.specs.types.queues.SendStreams.{paused_stream, committed_stream, rolled_back};
     ghost use Rattle.dcsctp_send_queue.specs.Calls.{StopsTaking, StopsDiscarding};
     ghost use Rattle.dcsctp_api.specs.spec.queues.Sending.{TakesNextFragment, DiscardsNamed};

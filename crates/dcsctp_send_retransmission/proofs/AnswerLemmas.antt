@@ -14,7 +14,7 @@ use Rattle.dcsctp_api.specs.types.queues.Progress.{tells_whether_missing, missed
 use Rattle.std.specs.Option.{option_map}
 use Rattle.dcsctp_api.specs.spec.queues.Outstanding.{reported_items, acknowledged_count, tsn_at}
 use Rattle.dcsctp_api.specs.spec.queues.Reports.{NamesItem}
-use Rattle.dcsctp_send_outstanding.proofs.ItemsLemmas.{le_or_lt}
+use Rattle.dcsctp_send_retransmission.proofs.ItemsLemmas.{le_or_lt}
 use Rattle.dcsctp_api.specs.spec.queues.Retransmission.{RetransmissionState, outstanding_count, with_items}
 use Rattle.dcsctp_api.specs.spec.queues.Acknowledging.{covered_items, lossy, missed_until, exiting, has_acknowledged, opens, probes_lost, acknowledged_until, window_after_settling, AcknowledgesItems}
 use Rattle.dcsctp_send_retransmission.specs.Answers.{AcknowledgesItem, SaysAnswer}

@@ -1,9 +1,9 @@
 -- Lemmas on chunks that go out for the first time.
 use Rattle.std.proofs.Common.{◌≡◌, ◌∙◌, ℕ, zero, suc, ◌+◌, ◌%◌, ◌^◌, ◌≤◌, Result, Ok, Err, OnOk, List, [], ◌∷◌, ◌++◌, length, append-nil, append_assoc, length-append, refl, ap, sym, arith}
 use Rattle.dcsctp_api.specs.spec.queues.Items.{Item, marked_items}
-use Rattle.dcsctp_send_outstanding.specs.Outstanding.{SendsNext}
+use Rattle.dcsctp_send_retransmission.specs.Outstanding.{SendsNext}
 use Rattle.dcsctp_api.specs.spec.queues.Outstanding.{OutstandingState}
-use Rattle.dcsctp_send_outstanding.specs.Fresh.{tsns_from, AllFresh, SendsFresh, EndsFresh}
+use Rattle.dcsctp_send_retransmission.specs.Fresh.{tsns_from, AllFresh, SendsFresh, EndsFresh}
 
 -- the outstanding items with these after them
 abbrev pub with_fresh : OutstandingState → List Item → OutstandingState

@@ -9,10 +9,10 @@ use Rattle.dcsctp_api.specs.types.declared.progress.ItemState.{ItemState}
 use Rattle.dcsctp_api.specs.types.declared.progress.ItemState.TheVariants.{InFlight, Marked, Acknowledged, Abandoned}
 use Rattle.dcsctp_api.specs.types.declared.progress.Change.TheVariants.{Abandon}
 use Rattle.dcsctp_api.specs.types.queues.Progress.{is_marked, is_unacknowledged}
-use Rattle.dcsctp_send_outstanding.specs.Outstanding.{MayAddEnd}
+use Rattle.dcsctp_send_retransmission.specs.Outstanding.{MayAddEnd}
 use Rattle.dcsctp_api.specs.spec.queues.Outstanding.{OutstandingState}
 use Rattle.dcsctp_api.specs.spec.queues.ItemMessages.{EndsDropped}
-use Rattle.dcsctp_send_outstanding.proofs.ItemsLemmas.{le_or_lt, slice_get_pushed}
+use Rattle.dcsctp_send_retransmission.proofs.ItemsLemmas.{le_or_lt, slice_get_pushed}
 use Rattle.dcsctp_send_retransmission.specs.Queue.{MayGrow, AbandonsItems}
 use Rattle.dcsctp_api.specs.spec.queues.Retransmission.{RetransmissionState}
 use Rattle.dcsctp_api.specs.spec.queues.Filling.{Stage, ClosesMessage, GivesUpItem, StageSteps, none, more}

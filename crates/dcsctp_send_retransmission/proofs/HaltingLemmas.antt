@@ -12,7 +12,7 @@ use Rattle.dcsctp_api.specs.types.declared.progress.Progress.{Progress}
 use Rattle.dcsctp_api.specs.types.declared.progress.Change.{Change}
 use Rattle.dcsctp_api.specs.types.declared.progress.Change.TheVariants.{SendAgain, Abandon}
 use Rattle.dcsctp_api.specs.types.queues.Progress.{is_marked, progress_changed}
-use Rattle.dcsctp_send_outstanding.specs.Outstanding.{MayAddEnd}
+use Rattle.dcsctp_send_retransmission.specs.Outstanding.{MayAddEnd}
 use Rattle.dcsctp_api.specs.spec.queues.NextItem.{IsMarkedItem, IsNextMarked, FirstStays, is_abandonment_due, WaitsForRoom, HaltsAgain, HaltsNew, Halts}
 use Rattle.dcsctp_api.specs.spec.queues.Outstanding.{OutstandingState, next_tsn}
 use Rattle.dcsctp_send_retransmission.specs.Queue.{AbandonsItems}

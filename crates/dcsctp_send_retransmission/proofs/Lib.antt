@@ -9,3 +9,10 @@ pub mod SendingLemmas
 pub mod SkippedLemmas
 pub mod SkippingLemmas
 pub mod StatesLemmas
+pub mod BytesLemmas
+pub mod HandoverLemmas
+pub mod ItemsLemmas
+pub mod MessageLemmas
+pub mod NextLemmas
+pub mod ReportLemmas
+pub mod SettledLemmas

@@ -4,7 +4,7 @@ use Rattle.std.specs.List.{slice_get}
 use Rattle.std.proofs.lemmas.List.{append-nil}
 use Rattle.dcsctp_api.specs.spec.endpoint.Event.{Event}
 use Rattle.dcsctp_api.specs.spec.queues.Items.{Item, marked_items, changed_between}
-use Rattle.dcsctp_send_streams.specs.Telling.{AddsFront}
+use Rattle.dcsctp_send_queue.specs.Telling.{AddsFront}
 use Rattle.std.proofs.Math.Seq.{take-add}
 use Rattle.dcsctp_api.specs.spec.queues.Acknowledging.{ends_delivery, lifecycle_events_of, delivered_events, covered_items, lossy, missed_until, without_first_items, congestion_acknowledgement, grown_window, acknowledged_until}
 use Rattle.dcsctp_api.specs.wire.declared.chunk.sack.GapAckBlock.{GapAckBlock}
@@ -12,9 +12,9 @@ use Rattle.dcsctp_api.specs.types.declared.congestion.Acknowledged.{Acknowledged
 use Rattle.dcsctp_api.specs.types.declared.progress.Change.TheVariants.{Miss, Abandon}
 use Rattle.dcsctp_send_retransmission.specs.Queue.{AbandonsItems}
 use Rattle.dcsctp_api.specs.spec.queues.Retransmission.{RetransmissionState, with_items}
-use Rattle.dcsctp_send_outstanding.specs.Outstanding.{MayAddEnd}
+use Rattle.dcsctp_send_retransmission.specs.Outstanding.{MayAddEnd}
 use Rattle.dcsctp_api.specs.spec.queues.Outstanding.{OutstandingState}
-use Rattle.dcsctp_send_outstanding.proofs.ItemsLemmas.{length-changed_between}
+use Rattle.dcsctp_send_retransmission.proofs.ItemsLemmas.{length-changed_between}
 
 -- misses leave the items in number
 pub length-missed_until : (count limit : ℕ) (newest : Option ℕ) (queue : RetransmissionState) → length (missed_until count limit newest queue).outstanding.items ≡ length queue.outstanding.items

@@ -6,7 +6,7 @@ use Rattle.dcsctp_api.specs.spec.queues.Items.{Item, chunk_size, item_size, chan
 use Rattle.dcsctp_send_retransmission.specs.declared.packet.Packet.{Packet}
 use Rattle.dcsctp_api.specs.types.declared.progress.Change.{Change}
 use Rattle.dcsctp_api.specs.types.declared.progress.Change.TheVariants.{Abandon}
-use Rattle.dcsctp_send_outstanding.specs.Outstanding.{MayAddEnd, SendsNext}
+use Rattle.dcsctp_send_retransmission.specs.Outstanding.{MayAddEnd, SendsNext}
 use Rattle.dcsctp_api.specs.spec.queues.Outstanding.{OutstandingState, header}
 use Rattle.dcsctp_send_retransmission.specs.Queue.{MayGrow, AbandonsItems}
 use Rattle.dcsctp_api.specs.spec.queues.Retransmission.{RetransmissionState, with_items, counted_again}

@@ -7,7 +7,7 @@ use Rattle.dcsctp_api.specs.spec.queues.SendQueue.{SendQueueState}
 use Rattle.dcsctp_api.specs.spec.queues.Sending.{TakesFragment}
 use Rattle.dcsctp_send_queue.specs.Calls.{StopsDiscarding}
 use Rattle.dcsctp_api.specs.spec.endpoint.Event.{Event}
-use Rattle.dcsctp_send_streams.specs.Telling.{contents}
+use Rattle.dcsctp_send_queue.specs.Telling.{contents}
 use Rattle.dcsctp_api.specs.spec.queues.Items.{Item, item_size, marked_items, changed_between}
 use Rattle.dcsctp_send_retransmission.specs.declared.packet.Packet.{Packet}
 use Rattle.dcsctp_api.specs.types.declared.progress.Change.{Change}
@@ -20,7 +20,7 @@ use Rattle.dcsctp_send_retransmission.proofs.SendingLemmas.{last_pushed, with_ou
 use Rattle.dcsctp_send_retransmission.specs.States.{stage, RefusesClosing, GoesFilling, StopsFilling, StopsBetweenSteps, Goes, SendsItemAgain}
 use Rattle.dcsctp_api.specs.spec.queues.Filling.{Stage, DropsRestOfMessage, ClosesMessage, payload_room, SendsNew, StepAgain, MayAdd, StepNew, resent_packet_counted, StageSteps, none, more, SendsMarked}
 use Rattle.dcsctp_api.specs.spec.queues.AtOnce.{SendsFirst, is_first_marked}
-use Rattle.dcsctp_send_outstanding.specs.Handing.{SendsItem}
+use Rattle.dcsctp_send_retransmission.specs.Handing.{SendsItem}
 use Rattle.dcsctp_api.specs.spec.queues.ItemMessages.{item_stage}
 
 -- there is one item at a place

@@ -12,8 +12,8 @@ use Rattle.dcsctp_api.specs.spec.queues.Items.{changed_between}
 use Rattle.dcsctp_api.specs.spec.queues.Outstanding.{acknowledged_count}
 use Rattle.dcsctp_api.specs.spec.queues.Retransmission.{RetransmissionState, after_expiry, with_items}
 use Rattle.dcsctp_api.specs.spec.queues.RoundTrip.{MeasuresRoundTrip}
-use Rattle.dcsctp_send_streams.specs.Telling.{AddsFront}
-use Rattle.dcsctp_send_outstanding.specs.Outstanding.{MayAddEnd}
+use Rattle.dcsctp_send_queue.specs.Telling.{AddsFront}
+use Rattle.dcsctp_send_retransmission.specs.Outstanding.{MayAddEnd}
 use Rattle.dcsctp_send_retransmission.specs.declared.handle_sack_result.HandleSackResult.{HandleSackResult}
 use Rattle.dcsctp_send_retransmission.specs.declared.handle_sack_result.HandleSackResult.TheVariants.{Invalid, Valid}
 use Rattle.dcsctp_send_retransmission.specs.Answers.{SaysAnswer}

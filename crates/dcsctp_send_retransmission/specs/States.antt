@@ -8,7 +8,7 @@ use Rattle.dcsctp_api.specs.declared.events.SocketEvent.{SocketEvent}
 use Rattle.dcsctp_api.specs.spec.endpoint.Event.{Event}
 use Rattle.dcsctp_api.specs.spec.queues.SendQueue.{SendQueueState}
 use Rattle.dcsctp_send_queue.specs.Calls.{StopsTaking, StopsDiscarding}
-use Rattle.dcsctp_send_streams.specs.Telling.{contents, AddsFront}
+use Rattle.dcsctp_send_queue.specs.Telling.{contents, AddsFront}
 use Rattle.dcsctp_api.specs.spec.queues.Items.{Item, item_size, changed_between}
 use Rattle.dcsctp_send_retransmission.specs.declared.packet.Packet.{Packet}
 use Rattle.dcsctp_api.specs.types.declared.progress.Change.TheVariants.{SendAgain}

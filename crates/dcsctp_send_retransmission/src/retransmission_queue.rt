@@ -10,9 +10,9 @@ mod handover;
 mod resending;
 mod sending;
 
+use crate::Outstanding;
 use dcsctp_api::SocketTime;
 use dcsctp_api::types::{BackoffAlgorithm, Change, CongestionControl, HandoverReadiness, Options};
-use dcsctp_send_outstanding::Outstanding;
 use dcsctp_send_queue::DataToSend;
 use dcsctp_send_timer::{Timer, longest_backoff};
 use std::alloc::Global;
@@ -80,7 +80,7 @@ impl RetransmissionQueue {
     ghost use Rattle.dcsctp_api.specs.spec.endpoint.Timers.{is_expired_timer};
     ghost use Rattle.dcsctp_api.specs.spec.queues.Readiness.{retransmission_readiness};
     ghost use Rattle.dcsctp_api.specs.spec.queues.Items.{unacknowledged_items, marked_items};
-    ghost use Rattle.dcsctp_send_outstanding.specs.Outstanding.{FindsPlaces};
+    ghost use Rattle.dcsctp_send_retransmission.specs.Outstanding.{FindsPlaces};
     ghost use Rattle.dcsctp_api.specs.spec.queues.Outstanding.{next_tsn, distance_to, is_untouched};
     ghost use Rattle.dcsctp_send_retransmission.specs.Queue.{queue_come_to};
     ghost use Rattle.dcsctp_send_retransmission.specs.Sending.{HasFragment};

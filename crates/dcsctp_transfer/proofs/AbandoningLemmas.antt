@@ -19,7 +19,7 @@ use Rattle.dcsctp_send_retransmission.specs.spec.queues.Transfer.{Transfer}
 use Rattle.dcsctp_send_retransmission.specs.spec.endpoint.FlushOutcomes.{FitsPlain, where_fits, stage_of, next_forward, may_abandon, ForwardsIfAbandoned, GivesUpThenForwards, forward_made}
 use Rattle.dcsctp_send_retransmission.proofs.spec_lemmas.TellingLemmas.{tells_abandoned}
 use Rattle.dcsctp_send_retransmission.proofs.spec_lemmas.ToldLemmas.{behind_events, given_up_before}
-use Rattle.dcsctp_send_retransmission.specs.send_streams.Telling.{contents}
+use Rattle.dcsctp_send_retransmission.specs.send_queue.Telling.{contents}
 use Rattle.dcsctp_send_retransmission.specs.GivingUp.{GivesUpDue, StopsGivingUp}
 use Rattle.dcsctp_send_retransmission.specs.Sending.{KeepsAllFragments}
 use Rattle.dcsctp_send_retransmission.specs.States.{stage}

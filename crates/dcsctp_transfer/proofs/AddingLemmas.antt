@@ -15,7 +15,7 @@ use Rattle.dcsctp_send_retransmission.specs.spec.queues.Chunks.{byte_field, flag
 use Rattle.dcsctp_send_retransmission.specs.spec.queues.Items.{Item, chunk_size}
 use Rattle.dcsctp_send_retransmission.specs.spec.queues.Outstanding.{OutstandingState, header_of, header, distance_to}
 use Rattle.dcsctp_send_retransmission.specs.spec.queues.Sending.{Fragment}
-use Rattle.dcsctp_send_retransmission.specs.send_outstanding.Outstanding.{FindsPlaces}
+use Rattle.dcsctp_send_retransmission.specs.Outstanding.{FindsPlaces}
 use Rattle.dcsctp_send_retransmission.specs.Sending.{HasFragment, PacksOutstanding, HandsOut, none as none_packed, more as more_packed}
 use Rattle.dcsctp_transfer.specs.Adding.{HasChunk, HaveChunks, none, more, HasChunkWithin, AddsChunk, AddsChunkOf, AddsChunks, HasRoomForRest}
 

@@ -20,8 +20,8 @@ use Rattle.dcsctp_send_retransmission.specs.spec.queues.Retransmission.{Retransm
 use Rattle.dcsctp_send_retransmission.specs.spec.endpoint.FlushOutcomes.{stage_of, FillsIfAllowed}
 use Rattle.dcsctp_send_retransmission.proofs.spec_lemmas.TellingLemmas.{tells_filled}
 use Rattle.dcsctp_send_retransmission.proofs.spec_lemmas.ToldLemmas.{behind_events, filled_before}
-use Rattle.dcsctp_send_retransmission.specs.send_streams.Telling.{contents}
-use Rattle.dcsctp_send_retransmission.specs.send_outstanding.Outstanding.{FindsPlaces}
+use Rattle.dcsctp_send_retransmission.specs.send_queue.Telling.{contents}
+use Rattle.dcsctp_send_retransmission.specs.Outstanding.{FindsPlaces}
 use Rattle.dcsctp_send_retransmission.specs.Halting.{FillsUp}
 use Rattle.dcsctp_send_retransmission.specs.States.{stage, StopsFilling, SendsPacket, queue_stage}
 use Rattle.dcsctp_transfer.specs.Adding.{AddsChunks}

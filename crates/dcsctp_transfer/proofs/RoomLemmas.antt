@@ -9,7 +9,7 @@ use Rattle.dcsctp_send_retransmission.specs.spec.queues.Retransmission.{Retransm
 use Rattle.dcsctp_send_retransmission.specs.spec.queues.SendQueue.{SendQueueState}
 use Rattle.dcsctp_send_retransmission.proofs.spec_lemmas.PackedLemmas.{IsTsnOf, AreTsnsOf, IsPacked}
 use Rattle.dcsctp_send_retransmission.proofs.spec_lemmas.PackingLemmas.{packed_none, packed_filled}
-use Rattle.dcsctp_send_retransmission.specs.send_outstanding.Outstanding.{FindsPlaces}
+use Rattle.dcsctp_send_retransmission.specs.Outstanding.{FindsPlaces}
 use Rattle.dcsctp_send_retransmission.specs.Halting.{FillsUp}
 use Rattle.dcsctp_transfer.specs.Adding.{HasChunk, HaveChunks, none, more}
 use Rattle.dcsctp_transfer.proofs.AddingLemmas.{found_at, have_packed}

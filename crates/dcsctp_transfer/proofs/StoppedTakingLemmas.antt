@@ -10,7 +10,7 @@ use Rattle.dcsctp_send_retransmission.specs.spec.queues.Sending.{Drops, more as 
 use Rattle.dcsctp_send_retransmission.proofs.spec_lemmas.FilledOutcomes.{Filled, filled_from_new, filled_from_dropped}
 use Rattle.dcsctp_send_retransmission.proofs.spec_lemmas.SendingOutcomes.{none_marked}
 use Rattle.dcsctp_send_retransmission.proofs.spec_lemmas.TakingOutcomes.{drops_idle}
-use Rattle.dcsctp_send_retransmission.specs.send_streams.Telling.{AddsFront}
+use Rattle.dcsctp_send_retransmission.specs.send_queue.Telling.{AddsFront}
 use Rattle.dcsctp_send_retransmission.specs.send_queue.Calls.{DropsNext, PartNext, StopsTaking}
 
 abbrev Events : Type 0

@@ -11,7 +11,7 @@ use Rattle.dcsctp_send_retransmission.specs.spec.queues.Retransmission.{with_ite
 use Rattle.dcsctp_send_retransmission.proofs.spec_lemmas.GivingUpOutcomes.{dropped_at, drops_named, given_up_at, given_up_from}
 use Rattle.dcsctp_send_retransmission.proofs.spec_lemmas.ItemMessageLemmas.{some_row}
 use Rattle.dcsctp_send_retransmission.proofs.spec_lemmas.ToldLemmas.{behind_events, before_first, before_steps}
-use Rattle.dcsctp_send_retransmission.specs.send_streams.Telling.{AddsFront}
+use Rattle.dcsctp_send_retransmission.specs.send_queue.Telling.{AddsFront}
 use Rattle.dcsctp_send_retransmission.specs.GivingUp.{StopsGivingUp}
 use Rattle.dcsctp_send_retransmission.specs.States.{RefusesClosing, RefusesAbandoningItem}
 

@@ -14,7 +14,7 @@ use Rattle.dcsctp_send_retransmission.specs.spec.queues.SendQueue.{SendQueueStat
 use Rattle.dcsctp_send_retransmission.specs.spec.queues.Tracker.{is_acknowledgement_due, owes_acknowledgement, sack_of, tracker_after_sack}
 use Rattle.dcsctp_send_retransmission.specs.spec.queues.Transfer.{Transfer, advertised_window, may_give}
 use Rattle.dcsctp_send_retransmission.specs.spec.endpoint.FlushOutcomes.{FillingEvent, filling_event_content, stage_of, FillsIfAllowed}
-use Rattle.dcsctp_send_retransmission.specs.send_streams.Telling.{AddsFront}
+use Rattle.dcsctp_send_retransmission.specs.send_queue.Telling.{AddsFront}
 
 -- is there any?
 abbrev pub has_chunks : List ChunkContent → Bool

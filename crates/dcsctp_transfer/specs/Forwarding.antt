@@ -14,7 +14,7 @@ use Rattle.dcsctp_send_retransmission.specs.spec.queues.SendQueue.{SendQueueStat
 use Rattle.dcsctp_send_retransmission.specs.spec.queues.Skipping.{SaysForward}
 use Rattle.dcsctp_send_retransmission.specs.spec.queues.Transfer.{Transfer}
 use Rattle.dcsctp_send_retransmission.specs.spec.endpoint.FlushOutcomes.{FillingEvent, filling_event_content, FitsPlain, stage_of, may_abandon, GivesUpThenForwards, forward_made}
-use Rattle.dcsctp_send_retransmission.specs.send_streams.Telling.{AddsFront}
+use Rattle.dcsctp_send_retransmission.specs.send_queue.Telling.{AddsFront}
 use Rattle.dcsctp_send_retransmission.specs.declared.forward_tsn.Skipped.{Skipped}
 use Rattle.dcsctp_send_retransmission.specs.declared.forward_tsn.Skipped.TheVariants.{Streams, Messages}
 use Rattle.dcsctp_transfer.specs.Filling.{with_chunk, PacketStage}

@@ -3,7 +3,6 @@ pub use Rattle.dcsctp_wire_build.specs as wire_build
 pub use Rattle.dcsctp_send_retransmission.specs.types as types
 pub use Rattle.dcsctp_send_retransmission.specs.spec as spec
 pub use Rattle.dcsctp_send_retransmission.specs.api as api
-pub use Rattle.dcsctp_send_retransmission.specs.send_streams as send_streams
 pub use Rattle.dcsctp_send_retransmission.specs.send_queue as send_queue
 pub use Rattle.dcsctp_receive_reassembly.specs as receive_reassembly
 pub mod Adding

@@ -15,7 +15,7 @@ use Rattle.dcsctp_send_retransmission.specs.spec.queues.Retransmission.{Retransm
 use Rattle.dcsctp_send_retransmission.specs.spec.queues.SendQueue.{SendQueueState}
 use Rattle.dcsctp_send_retransmission.specs.spec.queues.Transfer.{Transfer}
 use Rattle.dcsctp_send_retransmission.specs.spec.endpoint.TransferMoves.{TakesSack, lost_all}
-use Rattle.dcsctp_send_retransmission.specs.send_streams.Telling.{AddsFront}
+use Rattle.dcsctp_send_retransmission.specs.send_queue.Telling.{AddsFront}
 use Rattle.dcsctp_transfer.specs.declared.sacks.HandledSack.{HandledSack}
 use Rattle.dcsctp_transfer.specs.declared.sacks.HandledSack.TheVariants.{Invalid, Valid}
 

@@ -7,7 +7,7 @@ ghost use Rattle.dcsctp_send_retransmission.specs.wire.Content.{chunk_content};
 ghost use Rattle.dcsctp_send_retransmission.specs.wire.ReadsBack.{IsByte};
 ghost use Rattle.dcsctp_send_retransmission.specs.spec.endpoint.Timers.{moment_after};
 ghost use Rattle.dcsctp_send_retransmission.specs.spec.queues.Retransmission.{outstanding_count};
-ghost use Rattle.dcsctp_send_retransmission.specs.send_streams.Telling.{contents};
+ghost use Rattle.dcsctp_send_retransmission.specs.send_queue.Telling.{contents};
 ghost use Rattle.dcsctp_send_retransmission.specs.SkippedBytes.{ReadsAs};
 ghost use Rattle.dcsctp_transfer.specs.Filling.{with_chunk, packet_stage};
 ghost use Rattle.dcsctp_transfer.specs.Forwarding.{forward_said, PutsForward, MakesForwardTsn, AddsFirstOfAbandoning};

@@ -10,7 +10,7 @@ ghost use Rattle.dcsctp_send_retransmission.specs.spec.queues.Transfer.{is_none_
 ghost use Rattle.dcsctp_send_retransmission.specs.spec.endpoint.BegunResets.{last_assigned_tsn};
 ghost use Rattle.dcsctp_send_retransmission.specs.spec.endpoint.ResetOutcomes.{defers_reset, ResetsTransferStreams};
 ghost use Rattle.dcsctp_send_retransmission.specs.spec.queues.Numbers.{is_tsn_beyond};
-ghost use Rattle.dcsctp_send_retransmission.specs.send_streams.Telling.{contents};
+ghost use Rattle.dcsctp_send_retransmission.specs.send_queue.Telling.{contents};
 
 use crate::transfer::Transfer;
 use dcsctp_send_retransmission::api::{Events, StreamId};

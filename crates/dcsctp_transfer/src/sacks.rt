@@ -8,7 +8,7 @@ ghost use Rattle.dcsctp_send_retransmission.specs.spec.endpoint.TimeTurns.{has_c
 ghost use Rattle.dcsctp_send_retransmission.specs.spec.queues.Acknowledging.{is_sack_valid};
 ghost use Rattle.dcsctp_send_retransmission.specs.spec.queues.Retransmission.{retransmission_deadline};
 ghost use Rattle.dcsctp_send_retransmission.specs.spec.endpoint.TransferMoves.{timed_transfer};
-ghost use Rattle.dcsctp_send_retransmission.specs.send_streams.Telling.{contents};
+ghost use Rattle.dcsctp_send_retransmission.specs.send_queue.Telling.{contents};
 ghost use Rattle.dcsctp_transfer.specs.Sacks.{HandlesSack, lost_if_due};
 
 use crate::transfer::Transfer;

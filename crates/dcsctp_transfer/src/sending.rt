@@ -11,8 +11,8 @@ ghost use Rattle.dcsctp_send_retransmission.specs.spec.queues.SendQueue.{has_que
 ghost use Rattle.dcsctp_send_retransmission.specs.spec.queues.Retransmission.{outstanding_count, has_fast_retransmit, can_send};
 ghost use Rattle.dcsctp_send_retransmission.specs.spec.queues.Chunks.{flags_said, ppid_or_fsn, data_said, i_data_said, chunk_said};
 ghost use Rattle.dcsctp_send_retransmission.specs.spec.queues.Outstanding.{header_of};
-ghost use Rattle.dcsctp_send_retransmission.specs.send_outstanding.Outstanding.{FindsPlaces};
-ghost use Rattle.dcsctp_send_retransmission.specs.send_streams.Telling.{contents};
+ghost use Rattle.dcsctp_send_retransmission.specs.Outstanding.{FindsPlaces};
+ghost use Rattle.dcsctp_send_retransmission.specs.send_queue.Telling.{contents};
 ghost use Rattle.dcsctp_send_retransmission.specs.spec.queues.Items.{chunk_size, is_first_abandoned};
 ghost use Rattle.dcsctp_send_retransmission.specs.Sending.{HandsOut};
 ghost use Rattle.dcsctp_transfer.specs.Filling.{AddsFirstOfFilling, FillsDataPacket, is_sack_wanted, with_chunk, FillsRequestedSack, packet_stage};

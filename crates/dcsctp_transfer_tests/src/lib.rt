@@ -1,14 +1,12 @@
-//! A simulation of the transfer layer: one side sends, the other receives, and the link between them loses,
-//! doubles and reorders.
+//! Tests of what is sent and received, below the socket: the send queue, what is in flight, received data, and a
+//! simulation of both ends. Their values come from the standards, or were computed by hand.
 #![tactic(auto)]
 
 #[cfg(test)]
-mod link;
+mod both_ends;
 #[cfg(test)]
-mod messages;
+mod receive;
 #[cfg(test)]
-mod receiver;
+mod retransmission;
 #[cfg(test)]
-mod sender;
-#[cfg(test)]
-mod simulation;
+mod send_queue;

@@ -5,9 +5,9 @@ ghost use Rattle.dcsctp_api.specs.types.SnapshotItems.{queued_part};
 ghost use Rattle.dcsctp_api.specs.spec.queues.QueuedParts.{with_progress};
 
 use super::Backlog;
+use crate::UnderWay;
 use dcsctp_api::types::{HandoverOutgoingStream, HandoverStreamMessage};
 use dcsctp_api::{SocketTime, StreamId};
-use dcsctp_send_streams::UnderWay;
 use std::alloc::AllocError;
 
 // Says of the messages of a stream which of them is under way, and how far it has come: it is the first.

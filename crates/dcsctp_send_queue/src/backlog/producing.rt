@@ -3,8 +3,8 @@
 ghost use Rattle.std.specs.Prelude.{◌≡◌};
 
 use super::Backlog;
+use crate::{DataToSend, UnderWay};
 use dcsctp_api::{Events, SocketTime, StreamId};
-use dcsctp_send_streams::{DataToSend, UnderWay};
 use std::alloc::AllocError;
 
 impl Backlog {
@@ -13,8 +13,8 @@ impl Backlog {
     ghost use Rattle.std.specs.Option.{option_map};
     ghost use Rattle.std.specs.Prelude.{◌≡◌, ◌==◌, ◌+◌, ◌-◌, ◌<◌, ◌++◌, ℕ, length, Some, None, Ok, OnOk, OnErr, IfOk, IfSome};
     ghost use Rattle.dcsctp_api.specs.types.queues.SendStreams.{Waiting, front_of, is_expired, stream_at};
-    ghost use Rattle.dcsctp_send_streams.specs.Telling.{contents, AddsFront};
-    ghost use Rattle.dcsctp_send_streams.specs.Fragment.{HasSize};
+    ghost use Rattle.dcsctp_send_queue.specs.Telling.{contents, AddsFront};
+    ghost use Rattle.dcsctp_send_queue.specs.Fragment.{HasSize};
     ghost use Rattle.dcsctp_api.specs.spec.queues.Sending.{next_turn, begun_message_counted, fragment, after_part, part_events, after_last, last_events, DropsAll, size_produced, queue_after_producing, produced_events, begun_under_way, TakesNextFragment, DiscardsNamed};
     ghost use Rattle.dcsctp_send_queue.specs.Leaving.{HasMore, HasUnsentBytes, DropsSome, NextUnexpired};
     ghost use Rattle.dcsctp_send_queue.specs.Calls.{StopsTaking, StopsDiscarding};

@@ -3,8 +3,8 @@
 ghost use Rattle.std.specs.Prelude.{◌≡◌, ◌&&◌};
 
 use super::Backlog;
+use crate::Pause;
 use dcsctp_api::{Events, StreamId};
-use dcsctp_send_streams::Pause;
 use std::alloc::AllocError;
 
 impl Backlog {
@@ -14,8 +14,8 @@ impl Backlog {
     ghost use Rattle.dcsctp_api.specs.types.queues.SendStreams.{handed_out, stream_at, IsAscending};
     ghost use Rattle.dcsctp_api.specs.types.Ids.{stream_numbers};
     ghost use Rattle.dcsctp_api.specs.spec.queues.Transfer.{is_none_ready};
-    ghost use Rattle.dcsctp_send_streams.specs.Telling.{contents, AddsFront};
-    ghost use Rattle.dcsctp_send_streams.specs.Ranking.{count_pausing};
+    ghost use Rattle.dcsctp_send_queue.specs.Telling.{contents, AddsFront};
+    ghost use Rattle.dcsctp_send_queue.specs.Ranking.{count_pausing};
     ghost use Rattle.dcsctp_api.specs.spec.queues.OwnResets.{count_under_way, ready_streams, queue_with_prepared, prepare_events, handing_out};
     ghost use Rattle.dcsctp_send_queue.specs.Leaving.{after_pause, pause_events};
     ghost use Rattle.dcsctp_api.specs.spec.queues.Sending.{begun_under_way};

@@ -5,9 +5,9 @@ ghost use Rattle.dcsctp_api.specs.types.SnapshotItems.{queued_part};
 ghost use Rattle.dcsctp_api.specs.spec.queues.QueuedParts.{progress_again};
 
 use super::Backlog;
+use crate::{QueuedMessage, UnderWay};
 use dcsctp_api::types::{HandoverOutgoingStream, HandoverStreamMessage};
 use dcsctp_api::{SocketTime, StreamId};
-use dcsctp_send_streams::{QueuedMessage, UnderWay};
 use std::alloc::AllocError;
 
 // How far a message has come of which a part was sent.

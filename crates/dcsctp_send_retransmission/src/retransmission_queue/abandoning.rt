@@ -3,14 +3,14 @@
 ghost use Rattle.std.specs.Prelude.{◌≡◌, ◌++◌, true, OnOk, OnErr};
 ghost use Rattle.std.specs.Option.{option_map};
 ghost use Rattle.dcsctp_api.specs.types.Ids.{lifecycle_number};
-ghost use Rattle.dcsctp_send_streams.specs.Telling.{contents, AddsFront};
+ghost use Rattle.dcsctp_send_queue.specs.Telling.{contents, AddsFront};
 ghost use Rattle.dcsctp_api.specs.spec.queues.Filling.{maybe_expired};
 ghost use Rattle.dcsctp_api.specs.spec.queues.NextItem.{is_used_up, is_over, is_abandonment_due};
 
 use super::RetransmissionQueue;
+use crate::Item;
 use dcsctp_api::types::Change;
 use dcsctp_api::{Events, LifecycleId, SocketEvent, SocketTime};
-use dcsctp_send_outstanding::Item;
 use dcsctp_send_queue::SendQueue;
 use std::alloc::AllocError;
 

@@ -3,14 +3,14 @@
 ghost use Rattle.std.specs.Prelude.{◌≡◌, ◌++◌, Some, true, OnOk, OnErr};
 ghost use Rattle.dcsctp_api.specs.types.Ids.{lifecycle_number};
 ghost use Rattle.dcsctp_api.specs.spec.queues.Acknowledging.{ends_delivery, lifecycle_events_of, delivered_events};
-ghost use Rattle.dcsctp_send_streams.specs.Telling.{contents, AddsFront};
+ghost use Rattle.dcsctp_send_queue.specs.Telling.{contents, AddsFront};
 
 use super::RetransmissionQueue;
+use crate::Item;
 use crate::handle_sack_result::HandleSackResult;
 use dcsctp_api::types::{Acknowledged, Change};
 use dcsctp_api::wire::GapAckBlock;
 use dcsctp_api::{Events, LifecycleId, SocketEvent, SocketTime};
-use dcsctp_send_outstanding::Item;
 use std::alloc::AllocError;
 use std::time::Duration;
 

@@ -14,7 +14,7 @@ impl RetransmissionQueue {
     ghost use Rattle.dcsctp_api.specs.spec.queues.Items.{marked_items};
     ghost use Rattle.dcsctp_api.specs.spec.queues.Outstanding.{header};
     ghost use Rattle.dcsctp_api.specs.spec.queues.Retransmission.{can_send};
-    ghost use Rattle.dcsctp_send_outstanding.specs.Fresh.{SendsFresh, EndsFresh};
+    ghost use Rattle.dcsctp_send_retransmission.specs.Fresh.{SendsFresh, EndsFresh};
     ghost use Rattle.dcsctp_api.specs.spec.queues.NextItem.{HasNone, HaltsNew, Halts};
     ghost use Rattle.dcsctp_send_retransmission.specs.Halting.{FillsUp};
     ghost use Rattle.dcsctp_send_retransmission.specs.States.{stage, Goes, GoesFilling, TriesPacket, SendsPacket, queue_stage};

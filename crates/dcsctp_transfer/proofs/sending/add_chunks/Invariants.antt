@@ -1,5 +1,5 @@
 use Rattle.std.specs.Prelude.{◌<◌, take}
-use Rattle.dcsctp_send_retransmission.specs.send_outstanding.Outstanding.{FindsPlaces}
+use Rattle.dcsctp_send_retransmission.specs.Outstanding.{FindsPlaces}
 use Rattle.dcsctp_transfer.specs.Adding.{AddsChunks, HasRoomForRest}
 use Rattle.dcsctp_transfer.proofs.sending.add_chunks.Given as goal
 

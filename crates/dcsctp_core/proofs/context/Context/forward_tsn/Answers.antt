@@ -2,7 +2,7 @@ use Rattle.std.proofs.lemmas.Bool.Decides.{nat_tests}
 use Rattle.std.proofs.Common.{Option, None, Some, arith, refl, sym, subst}
 use Rattle.dcsctp_transfer.specs.spec.queues.Transfer.{Transfer}
 use Rattle.dcsctp_core.specs.Flushing.{ForwardsInTime}
-use Rattle.dcsctp_transfer.specs.send_streams.Telling.{contents}
+use Rattle.dcsctp_transfer.specs.send_queue.Telling.{contents}
 use Rattle.dcsctp_core.specs.declared.state.State.{State}
 use Rattle.dcsctp_core.specs.View.{View, view_of}
 use Rattle.dcsctp_core.proofs.ForwardLemmas.{forwards_below}

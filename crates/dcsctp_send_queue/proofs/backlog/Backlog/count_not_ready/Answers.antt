@@ -1,6 +1,6 @@
 use Rattle.std.proofs.Common.{◌+◌, ℕ, Some, ap, ◌∙◌, length}
 use Rattle.dcsctp_api.specs.types.queues.SendStreams.{Stream}
-use Rattle.dcsctp_send_streams.proofs.CountLemmas.{one_pausing}
+use Rattle.dcsctp_send_queue.proofs.CountLemmas.{one_pausing}
 use Rattle.dcsctp_send_queue.proofs.NotReadyLemmas.{all_idle, all_lost, but_one}
 use Rattle.dcsctp_send_queue.proofs.ReadyLemmas.{ready_ids}
 use Rattle.dcsctp_send_queue.proofs.backlog.Backlog.count_not_ready.Goals as goal

@@ -1,7 +1,7 @@
 use Rattle.std.proofs.Common.{◌≡◌, ◌∙◌, ℕ, ◌-◌, Some, length, ap, sym, subst}
 use Rattle.std.proofs.lemmas.Result.{err_from_is_err_and}
 use Rattle.dcsctp_api.specs.types.queues.SendStreams.{Waiting, Stream, front_of}
-use Rattle.dcsctp_send_streams.specs.Telling.{contents, AddsFront}
+use Rattle.dcsctp_send_queue.specs.Telling.{contents, AddsFront}
 use Rattle.dcsctp_api.specs.spec.queues.SendEvents.{expiry_events}
 use Rattle.dcsctp_api.specs.spec.queues.Sending.{part_events}
 use Rattle.dcsctp_send_queue.proofs.FrontLemmas.{front_left, front_right}

@@ -1,7 +1,7 @@
 use Rattle.std.proofs.Common.{[], ◌++◌, append-nil, inr, refl, sym, rules, subst}
 use Rattle.std.proofs.lemmas.Result.{err_from_is_err_and}
 use Rattle.dcsctp_send_queue.proofs.FrontLemmas.{front_from}
-use Rattle.dcsctp_send_streams.specs.Telling.{contents}
+use Rattle.dcsctp_send_queue.specs.Telling.{contents}
 use Rattle.dcsctp_api.specs.spec.queues.Sending.{none, produced_events}
 use Rattle.dcsctp_send_queue.proofs.GoingOnLemmas.{can_go_on-produced, chosen_going}
 use Rattle.dcsctp_send_queue.proofs.FragmentLemmas.{has_size}

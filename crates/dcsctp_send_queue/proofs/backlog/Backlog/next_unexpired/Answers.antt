@@ -2,7 +2,7 @@ use Rattle.std.proofs.Common.{inl, refl, ◌++◌, [], append_assoc, ap, sym, �
 use Rattle.std.proofs.lemmas.Result.{err_from_is_err_and}
 use Rattle.dcsctp_send_queue.proofs.FrontLemmas.{front_from}
 use Rattle.dcsctp_send_queue.proofs.GoingOnLemmas.{drops-under_way}
-use Rattle.dcsctp_send_streams.specs.Telling.{contents}
+use Rattle.dcsctp_send_queue.specs.Telling.{contents}
 use Rattle.dcsctp_api.specs.spec.queues.Sending.{none, more, drop_events}
 use Rattle.dcsctp_api.specs.spec.queues.SendQueue.{SendQueueState}
 use Rattle.dcsctp_send_queue.proofs.WaitingLemmas.{count_messages, count-without_rest, next_front}

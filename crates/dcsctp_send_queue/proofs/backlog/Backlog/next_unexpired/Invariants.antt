@@ -1,4 +1,4 @@
-use Rattle.dcsctp_send_streams.specs.Telling.{contents}
+use Rattle.dcsctp_send_queue.specs.Telling.{contents}
 use Rattle.dcsctp_api.specs.spec.queues.Sending.{DropsAll}
 use Rattle.dcsctp_send_queue.proofs.WaitingLemmas.{count_messages}
 use Rattle.dcsctp_send_queue.specs.Backlog.{queue_of}

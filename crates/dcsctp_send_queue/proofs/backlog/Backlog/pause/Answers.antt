@@ -1,7 +1,7 @@
 use Rattle.std.proofs.Common.{◌≡◌, ◌∙◌, ◌-◌, ◌^◌, ◌++◌, ℕ, List, drop, min, ap, subst}
 use Rattle.std.proofs.lemmas.Result.{err_from_is_err_and}
 use Rattle.dcsctp_api.specs.types.queues.SendStreams.{Waiting, Stream, stream_at, payload_size}
-use Rattle.dcsctp_send_streams.specs.Telling.{contents, AddsFront}
+use Rattle.dcsctp_send_queue.specs.Telling.{contents, AddsFront}
 use Rattle.dcsctp_api.specs.spec.queues.SendEvents.{expiries}
 use Rattle.dcsctp_api.specs.spec.queues.Sending.{part_events}
 use Rattle.dcsctp_api.specs.spec.queues.OwnResets.{count_under_way}

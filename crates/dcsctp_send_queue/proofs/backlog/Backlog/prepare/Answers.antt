@@ -1,6 +1,6 @@
 use Rattle.std.proofs.Common.{ℕ, List, ◌++◌, ap, sym, subst, ◌∙◌, rules}
 use Rattle.dcsctp_api.specs.spec.endpoint.Event.{Event}
-use Rattle.dcsctp_send_streams.specs.Telling.{contents, AddsFront}
+use Rattle.dcsctp_send_queue.specs.Telling.{contents, AddsFront}
 use Rattle.dcsctp_api.specs.spec.queues.OwnResets.{is_open_pause, prepared_queue, prepare_events_of}
 use Rattle.dcsctp_send_queue.proofs.ResetLemmas.{on_ok_map, on_err_map, paused_is, open_is, closed_is, open_events, closed_events, can_go_on-after_pause}
 use Rattle.dcsctp_send_queue.proofs.QueueLemmas.{stream_found-at}

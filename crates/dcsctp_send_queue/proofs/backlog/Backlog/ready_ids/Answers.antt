@@ -1,8 +1,8 @@
 use Rattle.std.proofs.Common.{◌<◌, ap, sym, refl, ◌∙◌, arith, length}
 use Rattle.dcsctp_api.specs.spec.queues.OwnResets.{is_under_way}
-use Rattle.dcsctp_send_streams.specs.Pausing.{pausing_ids}
+use Rattle.dcsctp_send_queue.specs.Pausing.{pausing_ids}
 use Rattle.dcsctp_api.specs.types.Ids.{stream_numbers}
-use Rattle.dcsctp_send_streams.proofs.PauseLemmas.{length-pausing}
+use Rattle.dcsctp_send_queue.proofs.PauseLemmas.{length-pausing}
 use Rattle.dcsctp_send_queue.proofs.ReadyLemmas.{count_none, count_some, ready_pushed, ready_passed, ready_end}
 use Rattle.dcsctp_send_queue.proofs.backlog.Backlog.ready_ids.Goals as goal
 use Rattle.dcsctp_send_queue.proofs.backlog.Backlog.ready_ids.Goals.{then-count_under_way-eq0+in_ok-push, else-count_under_way-eq0, then-asking-test+else-len-max, else-asking-test}

@@ -1,7 +1,7 @@
 use Rattle.std.proofs.Common.{◌≡◌, ◌≤◌, ◌-◌, take}
 use Rattle.dcsctp_api.specs.types.Ids.{stream_numbers}
-use Rattle.dcsctp_send_streams.specs.Pausing.{pausing_ids}
-use Rattle.dcsctp_send_streams.specs.Ranking.{count_pausing}
+use Rattle.dcsctp_send_queue.specs.Pausing.{pausing_ids}
+use Rattle.dcsctp_send_queue.specs.Ranking.{count_pausing}
 use Rattle.dcsctp_send_queue.proofs.ReadyLemmas.{ready_of}
 use Rattle.dcsctp_send_queue.proofs.backlog.Backlog.ready_ids.Given as goal
 

@@ -1,7 +1,7 @@
 use Rattle.std.proofs.Common.{ap, ◌∙◌}
 use Rattle.std.specs.List.{insert}
 use Rattle.dcsctp_api.specs.types.queues.SendStreams.{unused_stream}
-use Rattle.dcsctp_send_streams.proofs.PlaceLemmas.{IsAscending-insert}
+use Rattle.dcsctp_send_queue.proofs.PlaceLemmas.{IsAscending-insert}
 use Rattle.dcsctp_send_queue.proofs.GoingOnLemmas.{insert-used, can_go_on-insert}
 use Rattle.dcsctp_send_queue.specs.Backlog.{queue_of}
 use Rattle.dcsctp_send_queue.proofs.backlog.Backlog.use_stream.Goals as goal

@@ -3,7 +3,7 @@ use Rattle.dcsctp_api.specs.spec.endpoint.Event.{Event}
 use Rattle.dcsctp_api.specs.spec.queues.OwnResets.{queue_with_prepared, prepare_events}
 use Rattle.dcsctp_api.specs.spec.queues.SendQueue.{SendQueueState}
 use Rattle.dcsctp_send_queue.specs.Backlog.{queue_of}
-use Rattle.dcsctp_send_streams.specs.Telling.{contents, AddsFront}
+use Rattle.dcsctp_send_queue.specs.Telling.{contents, AddsFront}
 use Rattle.dcsctp_send_queue.specs.Preparing.{TriesStream}
 use Rattle.dcsctp_send_queue.proofs.send_queue.SendQueue.prepare_reset_stream.Goals as goal
 

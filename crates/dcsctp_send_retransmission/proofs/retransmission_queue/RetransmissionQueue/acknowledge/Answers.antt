@@ -4,7 +4,7 @@ use Rattle.dcsctp_api.specs.spec.queues.Outstanding.{OutstandingState}
 use Rattle.dcsctp_api.specs.types.declared.congestion.Acknowledged.{Acknowledged}
 use Rattle.dcsctp_api.specs.spec.queues.Retransmission.{RetransmissionState, with_items}
 use Rattle.dcsctp_api.specs.spec.queues.Acknowledging.{covered_items, missed_until, without_first_items, congestion_acknowledgement}
-use Rattle.dcsctp_send_outstanding.proofs.ItemsLemmas.{length-changed_between, length-reported}
+use Rattle.dcsctp_send_retransmission.proofs.ItemsLemmas.{length-changed_between, length-reported}
 use Rattle.dcsctp_send_retransmission.proofs.QueueLemmas.{length-missed_until, acknowledged_is}
 use Rattle.dcsctp_send_retransmission.proofs.retransmission_queue.RetransmissionQueue.acknowledge.Goals as goal
 

@@ -1,5 +1,5 @@
 use Rattle.std.proofs.Common.{◌≡◌, ◌+◌, ◌<◌, ◌^◌, false, length, refl, ap, sym, ◌∙◌}
-use Rattle.dcsctp_send_streams.specs.Telling.{contents}
+use Rattle.dcsctp_send_queue.specs.Telling.{contents}
 use Rattle.dcsctp_api.specs.spec.queues.Sending.{Fragment}
 use Rattle.dcsctp_api.specs.spec.queues.Items.{Item}
 use Rattle.dcsctp_send_retransmission.proofs.StatesLemmas.{same_at, on_ok_map, on_err_map, closes_rest, refuses_rest}

@@ -1,6 +1,6 @@
 use Rattle.std.proofs.Common.{◌≡◌, ◌∙◌, true, false, sym}
 use Rattle.dcsctp_api.specs.spec.queues.Acknowledging.{is_recovering}
-use Rattle.dcsctp_send_outstanding.proofs.ReportLemmas.{misses_until}
+use Rattle.dcsctp_send_retransmission.proofs.ReportLemmas.{misses_until}
 use Rattle.dcsctp_send_retransmission.proofs.retransmission_queue.RetransmissionQueue.miss_limit.Goals as goal
 
 pub returns-then-is_recovering : goal.returns-then-is_recovering

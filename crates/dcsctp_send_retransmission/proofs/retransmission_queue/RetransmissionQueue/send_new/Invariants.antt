@@ -1,6 +1,6 @@
 use Rattle.std.proofs.Common.{◌≡◌}
 use Rattle.dcsctp_api.specs.spec.queues.Items.{marked_items}
-use Rattle.dcsctp_send_outstanding.specs.Fresh.{SendsFresh}
+use Rattle.dcsctp_send_retransmission.specs.Fresh.{SendsFresh}
 use Rattle.dcsctp_send_retransmission.specs.Sending.{ContinuesPacket}
 use Rattle.dcsctp_send_retransmission.specs.States.{stage}
 use Rattle.dcsctp_api.specs.spec.queues.Filling.{StepNew, StageSteps}

@@ -3,9 +3,9 @@ use Rattle.dcsctp_send_retransmission.specs.declared.packet.Packet.{Packet}
 use Rattle.dcsctp_api.specs.spec.queues.Retransmission.{RetransmissionState}
 use Rattle.dcsctp_send_retransmission.specs.Sending.{KeepsAllFragments, ContinuesPacket}
 use Rattle.dcsctp_api.specs.spec.queues.Outstanding.{OutstandingState, header}
-use Rattle.dcsctp_send_outstanding.specs.Fresh.{SendsFresh}
+use Rattle.dcsctp_send_retransmission.specs.Fresh.{SendsFresh}
 use Rattle.dcsctp_send_queue.specs.Calls.{StopsTaking}
-use Rattle.dcsctp_send_streams.specs.Telling.{contents}
+use Rattle.dcsctp_send_queue.specs.Telling.{contents}
 use Rattle.std.proofs.lemmas.Result.{err_from_is_err_and}
 use Rattle.dcsctp_send_retransmission.specs.States.{stage}
 use Rattle.dcsctp_api.specs.spec.queues.Filling.{none, more}

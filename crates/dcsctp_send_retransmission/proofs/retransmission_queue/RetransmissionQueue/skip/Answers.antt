@@ -2,7 +2,7 @@ use Rattle.std.proofs.Common.{ℕ, Bool, ◌∙◌, ◌<◌, length, ap, sym, su
 use Rattle.dcsctp_send_retransmission.specs.declared.retransmission_queue.forwarding.LastNumbers.{LastNumbers}
 use Rattle.dcsctp_api.specs.spec.queues.Retransmission.{RetransmissionState}
 use Rattle.dcsctp_send_retransmission.specs.Skipping.{SkipsRow}
-use Rattle.dcsctp_send_outstanding.proofs.ReportLemmas.{has_item}
+use Rattle.dcsctp_send_retransmission.proofs.ReportLemmas.{has_item}
 use Rattle.dcsctp_send_retransmission.proofs.SkippingLemmas.{stops_here, stops_full}
 use Rattle.dcsctp_send_retransmission.proofs.retransmission_queue.RetransmissionQueue.skip.Goals as goal
 

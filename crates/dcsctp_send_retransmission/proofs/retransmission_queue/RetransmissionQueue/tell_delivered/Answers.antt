@@ -1,6 +1,6 @@
 use Rattle.std.proofs.Common.{◌≡◌, Some, slice_get, take, add-one, append_assoc}
 use Rattle.std.proofs.lemmas.Result.{err_from_is_err_and}
-use Rattle.dcsctp_send_streams.specs.Telling.{contents}
+use Rattle.dcsctp_send_queue.specs.Telling.{contents}
 use Rattle.dcsctp_api.specs.spec.queues.Acknowledging.{delivered_events}
 use Rattle.dcsctp_send_retransmission.proofs.QueueLemmas.{told_of, delivered_further, front_further}
 use Rattle.dcsctp_send_retransmission.proofs.retransmission_queue.RetransmissionQueue.tell_delivered.Goals as goal

@@ -1,5 +1,5 @@
 use Rattle.std.proofs.Common.{◌≡◌, ◌++◌, take}
-use Rattle.dcsctp_send_streams.specs.Telling.{contents}
+use Rattle.dcsctp_send_queue.specs.Telling.{contents}
 use Rattle.dcsctp_api.specs.spec.queues.Acknowledging.{delivered_events}
 use Rattle.dcsctp_send_retransmission.proofs.retransmission_queue.RetransmissionQueue.tell_delivered.Given as goal
 

@@ -1,7 +1,7 @@
 use Rattle.std.proofs.Common.{refl, ◌∙◌, ap, sym, subst, not, ◌==◌, ℕ, ◌<◌, List, length}
 use Rattle.std.proofs.lemmas.Result.{err_from_is_err_and}
 use Rattle.dcsctp_send_retransmission.specs.spec.queues.Transfer.{Transfer}
-use Rattle.dcsctp_send_retransmission.specs.send_outstanding.Outstanding.{FindsPlaces}
+use Rattle.dcsctp_send_retransmission.specs.Outstanding.{FindsPlaces}
 use Rattle.dcsctp_transfer.specs.Adding.{AddsChunks}
 use Rattle.dcsctp_transfer.proofs.FillingLemmas.{fills_none, fills_some, tells_filling}
 use Rattle.dcsctp_transfer.proofs.transfer.Transfer.fill_packet.Goals as goal

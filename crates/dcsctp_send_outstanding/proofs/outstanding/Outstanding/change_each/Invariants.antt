@@ -1,7 +1,0 @@
-use Rattle.std.proofs.Common.{◌≡◌, ◌≤◌, max}
-use Rattle.dcsctp_api.specs.spec.queues.Items.{changed_between}
-use Rattle.dcsctp_send_outstanding.proofs.outstanding.Outstanding.change_each.Given as goal
-
-abbrev pub invariant-loop-place : goal.invariant-loop-place
-invariant-loop-place l =
-    (l.self ≡ record l.initial.self { items = changed_between l.change l.start l.place l.initial.self.items }) × (l.start ≤ l.place) × (l.place ≤ max l.start l.limit)

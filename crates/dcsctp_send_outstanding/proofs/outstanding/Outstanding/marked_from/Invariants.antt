@@ -1,5 +1,0 @@
-use Rattle.dcsctp_send_outstanding.specs.Outstanding.{NoneMarkedBetween}
-use Rattle.dcsctp_send_outstanding.proofs.outstanding.Outstanding.marked_from.Given as goal
-
-abbrev pub invariant-loop-place : goal.invariant-loop-place
-invariant-loop-place l = NoneMarkedBetween l.start l.place l.self.items

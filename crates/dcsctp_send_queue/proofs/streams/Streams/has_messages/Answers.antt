@@ -1,0 +1,14 @@
+use Rattle.std.proofs.Common.{◌∙◌, rules, tests}
+use Rattle.std.proofs.lemmas.Iterator.{YieldsList-from_slice}
+use Rattle.std.proofs.lemmas.Iterator.Search.{any_from_yields_List}
+use Rattle.dcsctp_api.specs.types.queues.SendStreams.{Stream}
+use Rattle.dcsctp_api.specs.spec.queues.Readiness.{has_messages}
+use Rattle.dcsctp_send_queue.proofs.BoxLemmas.{Boxed, any_in_boxes}
+use Rattle.dcsctp_send_queue.proofs.streams.Streams.has_messages.Goals as goal
+
+pub returns : goal.returns
+returns c =
+    let test = λ (stream : Stream). has_messages stream in
+    let boxes = c.boxes.result.now in
+    any_in_boxes test boxes _ _ (c.boxes.ensures ∙ c.self.view_is)
+    (any_from_yields_List (λ (it : Boxed). test it.value) _ _ _ c.any.ensures.ran (YieldsList-from_slice boxes cc) (λ x b q k. search (rules, tests)))

@@ -1,0 +1,148 @@
+//! Which streams are to be reset, and of which the reset was requested, by number.
+
+ghost use Rattle.std.specs.Prelude.{◌≡◌, ◌+◌, ◌<◌, ◌≤◌, [], List, true, OnOk};
+ghost use Rattle.std.specs.VecDeque.{deque_len, deque_capacity};
+ghost use Rattle.dcsctp_api.specs.types.declared.ids.StreamId.{StreamId};
+ghost use Rattle.dcsctp_api.specs.types.queues.SendStreams.{is_pausing};
+ghost use Rattle.dcsctp_send_queue.specs.Pausing.{is_pause_handed_out, AreIdsAscending, with_id, with_id_if, IsIdPlace, HoldsId, HoldsPause};
+
+use dcsctp_api::StreamId;
+use dcsctp_api::types::Pause;
+use std::alloc::{AllocError, Global};
+use std::collections::VecDeque;
+
+// How many of the numbers, which ascend, are less than the given one.
+fn place_of(ids: &VecDeque<StreamId>, id: StreamId) -> usize
+    requires { AreIdsAscending ids.now.items }
+    ensures { IsIdPlace ids.now.items id result }
+{
+    let mut low = 0;
+    let mut high = ids.len();
+    'halving: while low < high {
+        let middle = low + (high - low) / 2;
+        if ids[middle].0 < id.0 {
+            low = middle + 1;
+        } else {
+            high = middle;
+        }
+    }
+    low
+}
+
+// Adds a number, for which there is room.
+fn add_id(ids: &mut VecDeque<StreamId>, id: StreamId)
+    requires ascending { AreIdsAscending ids.old.items }
+    requires room { deque_len ids.old < deque_capacity ids.old }
+    ensures ids { ids.new.items ≡ with_id id ids.old.items }
+    ensures capacity { deque_capacity ids.old ≤ deque_capacity ids.new }
+{
+    let place = place_of(ids, id);
+    ids.insert(place, id).unwrap();
+}
+
+// Takes a number out.
+fn remove_id(ids: &mut VecDeque<StreamId>, id: StreamId)
+    requires { HoldsId ids.old.items true id (deque_capacity ids.old) }
+    ensures ids { (others : List StreamId) → ids.old.items ≡ with_id id others
+        → ids.new.items ≡ others }
+    ensures capacity { deque_capacity ids.new ≡ deque_capacity ids.old }
+{
+    let place = place_of(ids, id);
+    let _ = ids.remove(place);
+}
+
+// Adds a number or takes it out, by whether it was one of them and is.
+fn move_id(ids: &mut VecDeque<StreamId>, id: StreamId, was_in: bool, is_in: bool)
+    requires { HoldsId ids.old.items was_in id (deque_capacity ids.old) }
+    ensures ids { (others : List StreamId) → ids.old.items ≡ with_id_if was_in id others
+        → ids.new.items ≡ with_id_if is_in id others }
+    ensures capacity { deque_capacity ids.old ≤ deque_capacity ids.new }
+{
+    match (was_in, is_in) {
+        (false, true) => add_id(ids, id),
+        (true, false) => remove_id(ids, id),
+        (false, false) | (true, true) => {}
+    }
+}
+
+// Is the stream to be reset, and its reset not requested yet?
+fn is_pausing(pause: Pause) -> bool
+    ensures { result ≡ is_pausing pause }
+{
+    match pause {
+        Pause::Pausing => true,
+        Pause::Open | Pause::HandedOut => false,
+    }
+}
+
+// Was the reset of the stream requested?
+fn is_handed_out(pause: Pause) -> bool
+    ensures { result ≡ is_pause_handed_out pause }
+{
+    match pause {
+        Pause::HandedOut => true,
+        Pause::Open | Pause::Pausing => false,
+    }
+}
+
+/// The numbers of the streams that are paused, ascending.
+#[derive(Drop)]
+pub struct PausedIds {
+    /// They are to be reset, and weren't handed out yet.
+    pub pausing: VecDeque<StreamId>,
+
+    /// They were handed out to be reset.
+    pub handed_out: VecDeque<StreamId>,
+}
+
+impl PausedIds {
+    /// None. Allocates nothing.
+    pub fn new(alloc: Global) -> PausedIds
+        ensures pausing { result.pausing.items ≡ [] }
+        ensures handed_out { result.handed_out.items ≡ [] }
+    {
+        PausedIds {
+            pausing: VecDeque::new(alloc),
+            handed_out: VecDeque::new(alloc),
+        }
+    }
+
+    /// Makes room for that many of each. `Err`: an allocation failed.
+    pub fn reserve(&mut self, count: usize) -> Result<(), AllocError>
+        ensures pausing { self.new.pausing.items ≡ self.old.pausing.items }
+        ensures handed_out { self.new.handed_out.items ≡ self.old.handed_out.items }
+        ensures has_room { deque_capacity self.old.pausing ≤ deque_capacity self.new.pausing }
+        ensures has_more { deque_capacity self.old.handed_out
+            ≤ deque_capacity self.new.handed_out }
+        ensures room { OnOk result (count ≤ deque_capacity self.new.pausing) }
+        ensures more { OnOk result (count ≤ deque_capacity self.new.handed_out) }
+    {
+        self.pausing
+            .reserve(count.saturating_sub(self.pausing.len()))?;
+        self.handed_out
+            .reserve(count.saturating_sub(self.handed_out.len()))?;
+        Ok(())
+    }
+
+    /// Moves a stream whose pause changes.
+    pub fn move_stream(&mut self, id: StreamId, before: Pause, after: Pause)
+        requires { HoldsPause self.old id before }
+        ensures pausing { (others : List StreamId)
+            → self.old.pausing.items ≡ with_id_if (is_pausing before) id others
+            → self.new.pausing.items ≡ with_id_if (is_pausing after) id others }
+        ensures handed_out { (others : List StreamId)
+            → self.old.handed_out.items ≡ with_id_if (is_pause_handed_out before) id others
+            → self.new.handed_out.items ≡ with_id_if (is_pause_handed_out after) id others }
+        ensures has_room { deque_capacity self.old.pausing ≤ deque_capacity self.new.pausing }
+        ensures has_more { deque_capacity self.old.handed_out
+            ≤ deque_capacity self.new.handed_out }
+    {
+        move_id(&mut self.pausing, id, is_pausing(before), is_pausing(after));
+        move_id(
+            &mut self.handed_out,
+            id,
+            is_handed_out(before),
+            is_handed_out(after),
+        );
+    }
+}

@@ -1,5 +1,0 @@
-use Rattle.dcsctp_send_streams.proofs.BoxLemmas.{put_in}
-use Rattle.dcsctp_send_streams.proofs.stream_list.StreamList.insert.Goals as goal
-
-pub returns-clause-ok : goal.returns-clause-ok
-returns-clause-ok c = put_in _ _ _ _ _ _ c.self.view_is c.in_ok-insert.ensures.items c.in_ok-boxed.ensures.ok
