@@ -1,7 +1,5 @@
-pub mod Directions
-pub mod Marking
-pub mod Requests
-pub mod Calm
-pub mod Forwards
-pub mod Losing
-pub mod Reached
+pub mod sending
+pub mod receiving
+pub mod directions
+pub mod order
+pub mod epochs

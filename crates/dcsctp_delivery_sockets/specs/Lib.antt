@@ -1,10 +1,3 @@
-pub mod Echoes
-pub mod Packets
-pub mod Acts
-pub mod UserMessages
-pub mod Ordered
-pub mod Epochs
-pub mod Delivery
-pub mod Retransmitting
-pub mod Shown
-pub mod ShownDelivery
+pub mod turns
+pub mod associations
+pub mod sockets

@@ -1,11 +1,20 @@
-//! What two sockets send one another, over every list of honest acts: where a COOKIE ECHO goes,
-//! and that data is handled in the association in which it was sent. Each law is the
-//! contract of a function that only calls others. And which associations they show: each that begins is still
-//! there when the act in which it began is over, so what delivery asks of verification tags can be seen from outside.
+//! What two sockets send one another, over every list of honest acts. Turns of a socket are steps of the directions of
+//! its associations, and data is handled in the association in which it was sent. Which associations there are can be
+//! seen from outside, so delivery is a promise about what two sockets show.
 #![tactic(auto)]
 
-mod laws;
+mod associations_laws;
 mod shown_laws;
+mod sockets_laws;
+mod turns_laws;
 
-pub use laws::{acts_keep_ends, echoes_go_to_makers, packets_keep_ends, sockets_deliver};
+pub use associations_laws::{
+    ends_arrive, ends_begin, ends_cut_as_asked, ends_deliver, ends_deliver_in_order,
+    ends_deliver_without_gaps, receivers_turn, senders_resets, senders_turn,
+};
 pub use shown_laws::{shown_tags_suffice, sockets_run_t3, users_read_what_was_sent};
+pub use sockets_laws::{acts_keep_ends, echoes_go_to_makers, packets_keep_ends, sockets_deliver};
+pub use turns_laws::{
+    actions_are_steps, data_goes_to_peer, own_requests_complete, peers_requests_turn, runs_go_on,
+    tags_are_own, turns_are_actions, turns_report, turns_tell_resets, unbegun_numbers_stay,
+};

@@ -1,8 +1,8 @@
 //! The laws of this crate.
 
-ghost use Rattle.dcsctp_delivery_sockets.specs.ShownDelivery.{UsersReadWhatWasSent};
-ghost use Rattle.dcsctp_delivery_sockets.specs.Retransmitting.{SocketsRunT3};
-ghost use Rattle.dcsctp_delivery_sockets.specs.Shown.{ShownTagsSuffice};
+ghost use Rattle.dcsctp_delivery_sockets.specs.sockets.ShownDelivery.{UsersReadWhatWasSent};
+ghost use Rattle.dcsctp_delivery_sockets.specs.sockets.Retransmitting.{SocketsRunT3};
+ghost use Rattle.dcsctp_delivery_sockets.specs.sockets.Shown.{ShownTagsSuffice};
 
 use crate::sockets_deliver;
 use dcsctp_spec_laws::{acts_are_controlled, chunks_are_controlled};

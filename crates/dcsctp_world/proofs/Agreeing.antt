@@ -13,14 +13,14 @@ use Rattle.dcsctp_core.specs.spec.endpoint.Endpoint.{Endpoint}
 use Rattle.dcsctp_core.specs.spec.endpoint.CallTurns.{Transition, events_of}
 use Rattle.dcsctp_spec_runs.specs.Sockets.{PerformedAct, Both, of_side, turns_after, acts_of}
 use Rattle.dcsctp_theorem_sockets.specs.Deadlines.{RunsT1}
-use Rattle.dcsctp_delivery_sockets.specs.Retransmitting.{RunsT3, SocketsRunT3}
+use Rattle.dcsctp_delivery_sockets.specs.sockets.Retransmitting.{RunsT3, SocketsRunT3}
 use Rattle.dcsctp_theorem_sockets.specs.Handshake.{ConnectThroughout, handshake_acts, connections_of_events, IsConnected, AreConnected, FittingSocketsConnect}
 use Rattle.dcsctp_theorem_sockets.specs.Laws.{SocketLaws}
 use Rattle.dcsctp_theorem_sockets.specs.OneSocket.{IsWithinLimit}
 use Rattle.dcsctp_theorem_sockets.specs.Telling.{HasRecordedAssociation}
 use Rattle.dcsctp_theorem_sockets.specs.CookieLaws.{CookieLaws}
 use Rattle.dcsctp_theorem_progress.specs.Laws.{ProgressLaws}
-use Rattle.dcsctp_delivery_sockets.specs.ShownDelivery.{UsersReadWhatWasSent}
+use Rattle.dcsctp_delivery_sockets.specs.sockets.ShownDelivery.{UsersReadWhatWasSent}
 use Rattle.dcsctp_core.specs.types.Schedule.{ActContent}
 use Rattle.dcsctp_world.specs.Shown.{ShownSide, WorldView, options_of}
 use Rattle.dcsctp_world.specs.Run.{SideRuns, IsRun, GoesWell}

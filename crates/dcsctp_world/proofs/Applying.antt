@@ -15,10 +15,10 @@ use Rattle.dcsctp_theorem_sockets.specs.CookieLaws.{CookieLaws}
 use Rattle.dcsctp_theorem_progress.specs.Laws.{ProgressLaws}
 use Rattle.dcsctp_theorem_sockets.specs.Laws.{SocketLaws}
 use Rattle.dcsctp_theorem_sockets.specs.Restores.{RestoredSocketsBeginNothing}
-use Rattle.dcsctp_delivery_sockets.specs.ShownDelivery.{UsersReadWhatWasSent}
-use Rattle.dcsctp_delivery_sockets.specs.Retransmitting.{SocketsRunT3}
-use Rattle.dcsctp_delivery_sockets.specs.Delivery.{FitsAct}
-use Rattle.dcsctp_delivery_sockets.specs.UserMessages.{messages_of_turns, read_of}
+use Rattle.dcsctp_delivery_sockets.specs.sockets.ShownDelivery.{UsersReadWhatWasSent}
+use Rattle.dcsctp_delivery_sockets.specs.sockets.Retransmitting.{SocketsRunT3}
+use Rattle.dcsctp_delivery_sockets.specs.sockets.Delivery.{FitsAct}
+use Rattle.dcsctp_delivery_sockets.specs.sockets.UserMessages.{messages_of_turns, read_of}
 use Rattle.dcsctp_core.specs.api.declared.errors.SocketFault.{SocketFault}
 use Rattle.dcsctp_core.specs.api.declared.errors.SocketFault.TheVariants.{OutOfMemory, Failed}
 use Rattle.dcsctp_core.specs.api.Calls.{user_event}

@@ -10,7 +10,7 @@ use Rattle.dcsctp_core.specs.spec.endpoint.Event.{Event, packets_of_events}
 use Rattle.dcsctp_core.specs.types.Schedule.{CallContent}
 use Rattle.dcsctp_core.specs.spec.endpoint.UserTurns.{UserTurns}
 use Rattle.dcsctp_core.specs.types.queues.Messages.{MessageContent}
-use Rattle.dcsctp_delivery_sockets.specs.UserMessages.{messages_of_turns, read_of}
+use Rattle.dcsctp_delivery_sockets.specs.sockets.UserMessages.{messages_of_turns, read_of}
 use Rattle.dcsctp_core.specs.api.Calls.{UserView, DrawsWords, Follows, MakesCall}
 use Rattle.dcsctp_socket.specs.SocketView.{SocketView, user_view_of}
 use Rattle.dcsctp_world.specs.declared.act.Reply.{Reply}

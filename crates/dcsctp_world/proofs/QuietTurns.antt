@@ -21,7 +21,7 @@ use Rattle.dcsctp_core.specs.spec.endpoint.Turn.{Input, arrival, refusal, packet
 use Rattle.dcsctp_core.specs.spec.association.Acts.{abort_with, flushes}
 use Rattle.dcsctp_core.specs.types.queues.Messages.{MessageContent}
 use Rattle.dcsctp_core.specs.spec.endpoint.HeartbeatOutcomes.{is_exhausted}
-use Rattle.dcsctp_delivery_sockets.specs.UserMessages.{messages_of_input, messages_of_turns, messages_read_of_input, read_of}
+use Rattle.dcsctp_delivery_sockets.specs.sockets.UserMessages.{messages_of_input, messages_of_turns, messages_read_of_input, read_of}
 
 -- no message was sent, and none was read
 pub record AreQuiet (e : Endpoint) (turns : List Transition) : Type 0 where

@@ -18,8 +18,8 @@ use Rattle.dcsctp_spec_runs.specs.Sockets.{Both, of_side, of_other, side_of_act,
 use Rattle.dcsctp_core.proofs.spec_lemmas.TurnLists.{after_all-append, words_of-append, pairs_of-append, events_of-append}
 use Rattle.dcsctp_spec_runs.proofs.SocketLemmas.{sockets_keep_options}
 use Rattle.dcsctp_core.specs.types.queues.Messages.{MessageContent}
-use Rattle.dcsctp_delivery_sockets.specs.Delivery.{FitsAct}
-use Rattle.dcsctp_delivery_sockets.specs.UserMessages.{messages_of_input, messages_of_turns, messages_read_of_input, read_of}
+use Rattle.dcsctp_delivery_sockets.specs.sockets.Delivery.{FitsAct}
+use Rattle.dcsctp_delivery_sockets.specs.sockets.UserMessages.{messages_of_input, messages_of_turns, messages_read_of_input, read_of}
 use Rattle.dcsctp_core.specs.api.Calls.{user_event}
 use Rattle.dcsctp_core.specs.types.declared.schedule.Act.{Act}
 use Rattle.dcsctp_core.specs.types.Schedule.{ActContent, act_content}

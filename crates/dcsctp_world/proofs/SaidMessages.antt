@@ -18,7 +18,7 @@ use Rattle.dcsctp_core.specs.types.queues.Messages.{MessageContent}
 use Rattle.dcsctp_core.specs.spec.endpoint.MessageOutcomes.{MessageRefusal, Sending, sending_of, sending_refusal, queue_one, RefusedMessage, refused_message_at_place, refused_from, message_refusal}
 use Rattle.dcsctp_core.specs.api.declared.errors.BatchSendError.{BatchSendError}
 use Rattle.dcsctp_core.specs.api.Messages.{IsBatchAnswer, ready_messages, IsFirstMessage}
-use Rattle.dcsctp_delivery_sockets.specs.UserMessages.{accepted_unless_refused, accepted_messages, messages_of_input, messages_of_turns, first_readable, messages_read_of_input, read_of}
+use Rattle.dcsctp_delivery_sockets.specs.sockets.UserMessages.{accepted_unless_refused, accepted_messages, messages_of_input, messages_of_turns, first_readable, messages_read_of_input, read_of}
 use Rattle.dcsctp_world.specs.declared.act.Reply.{Reply}
 use Rattle.dcsctp_world.specs.declared.act.Reply.TheVariants.{NoCall, Done, Sent, SentMany, Reset, Taken, HandedOver, Restored}
 use Rattle.dcsctp_world.specs.Growth.{IsSent, IsSentMany, IsTaken, IsCallReply}

@@ -18,7 +18,7 @@ use Rattle.dcsctp_core.specs.api.Resets.{reset_refusal_of_answer}
 use Rattle.dcsctp_core.specs.types.queues.Messages.{MessageContent}
 use Rattle.dcsctp_core.specs.spec.endpoint.MessageOutcomes.{MessageRefusal, message_refusal, sending_of, RefusedMessage, refused_from}
 use Rattle.dcsctp_core.specs.spec.endpoint.PreparedResets.{ResetRefusal, reset_refusal}
-use Rattle.dcsctp_delivery_sockets.specs.UserMessages.{messages_of_turns, read_of}
+use Rattle.dcsctp_delivery_sockets.specs.sockets.UserMessages.{messages_of_turns, read_of}
 use Rattle.dcsctp_world.specs.declared.act.Reply.{Reply}
 use Rattle.dcsctp_world.specs.declared.act.Reply.TheVariants.{NoCall, Done, Sent, SentMany, Reset, Taken, HandedOver, Restored}
 use Rattle.dcsctp_socket.specs.SocketView.{user_view_of}

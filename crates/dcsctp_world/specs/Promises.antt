@@ -10,13 +10,13 @@ use Rattle.dcsctp_spec_runs.specs.Past.{Each, InPlace}
 use Rattle.dcsctp_spec_runs.specs.Sockets.{of_side, turns_after, acts_of}
 use Rattle.dcsctp_theorem_sockets.specs.Agreement.{AgreeThroughout, AreFresh, recorded_past}
 use Rattle.dcsctp_theorem_sockets.specs.Deadlines.{RunsT1}
-use Rattle.dcsctp_delivery_sockets.specs.Retransmitting.{RunsT3}
+use Rattle.dcsctp_delivery_sockets.specs.sockets.Retransmitting.{RunsT3}
 use Rattle.dcsctp_theorem_sockets.specs.Handshake.{AreFitting, ConnectThroughout}
 use Rattle.dcsctp_theorem_sockets.specs.OneSocket.{EndsByAnswer, ReportsEnd, IsWithinLimit, TurnKeepsBurst, TimeIsQuiet}
 use Rattle.dcsctp_theorem_sockets.specs.Telling.{ReportsRecorded, HasRecordedAssociation, AreNewRecords}
 use Rattle.dcsctp_theorem_sockets.specs.Ages.{AgeThroughout}
 use Rattle.dcsctp_theorem_sockets.specs.Cookies.{GivesCookiesThroughout}
-use Rattle.dcsctp_delivery_sockets.specs.ShownDelivery.{DeliverThroughout}
+use Rattle.dcsctp_delivery_sockets.specs.sockets.ShownDelivery.{DeliverThroughout}
 use Rattle.dcsctp_world.specs.Connecting.{ShownRoundsConnect}
 use Rattle.dcsctp_world.specs.Drawing.{AreWhole}
 use Rattle.dcsctp_world.specs.Handshake.{ShownHandshakeConnects}

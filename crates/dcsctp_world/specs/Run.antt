@@ -6,8 +6,8 @@ use Rattle.dcsctp_core.specs.spec.endpoint.CallTurns.{Transition, words_of, pair
 use Rattle.dcsctp_core.specs.spec.endpoint.Endpoint.{fresh_endpoint}
 use Rattle.dcsctp_spec_runs.specs.Sockets.{Both, of_side, PerformedAct, SocketRun, turns_after, endpoint_after, events_shown, packets_shown, acts_of, associations_of}
 use Rattle.dcsctp_theorem_sockets.specs.Agreement.{AreUsable}
-use Rattle.dcsctp_delivery_sockets.specs.Delivery.{AreInMemory}
-use Rattle.dcsctp_delivery_sockets.specs.UserMessages.{messages_of_turns, read_of}
+use Rattle.dcsctp_delivery_sockets.specs.sockets.Delivery.{AreInMemory}
+use Rattle.dcsctp_delivery_sockets.specs.sockets.UserMessages.{messages_of_turns, read_of}
 use Rattle.dcsctp_world.specs.Shown.{ShownSide, WorldView, options_of}
 use Rattle.dcsctp_world.specs.Recording.{Recording}
 use Rattle.dcsctp_world.specs.Drawing.{AreWhole}

@@ -5,7 +5,7 @@ ghost use Rattle.std.specs.List.{AllByRecursion};
 ghost use Rattle.dcsctp_core.specs.types.Schedule.{act_content, call_content};
 ghost use Rattle.dcsctp_core.specs.types.Ids.{stream_numbers};
 ghost use Rattle.dcsctp_core.specs.types.queues.Messages.{message_content};
-ghost use Rattle.dcsctp_delivery_sockets.specs.Delivery.{FitsMessage, FitsCall, FitsAct};
+ghost use Rattle.dcsctp_delivery_sockets.specs.sockets.Delivery.{FitsMessage, FitsCall, FitsAct};
 
 use dcsctp_core::types::{Act, Call, Step};
 use dcsctp_socket::{Message, StreamId};

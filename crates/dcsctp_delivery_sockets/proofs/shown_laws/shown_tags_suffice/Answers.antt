@@ -1,5 +1,5 @@
 use Rattle.dcsctp_theorem_sockets.proofs.Moves.{Below}
-use Rattle.dcsctp_delivery_sockets.proofs.Runs.{shown_tags_suffice}
+use Rattle.dcsctp_delivery_sockets.proofs.sockets.Runs.{shown_tags_suffice}
 use Rattle.dcsctp_delivery_sockets.proofs.shown_laws.shown_tags_suffice.Goals as goal
 
 pub returns : goal.returns

@@ -1,5 +1,5 @@
 use Rattle.dcsctp_theorem_sockets.proofs.Moves.{Below}
-use Rattle.dcsctp_delivery_sockets.proofs.Runs.{sockets_run_t3}
+use Rattle.dcsctp_delivery_sockets.proofs.sockets.Runs.{sockets_run_t3}
 use Rattle.dcsctp_delivery_sockets.proofs.shown_laws.sockets_run_t3.Goals as goal
 
 pub returns : goal.returns

@@ -1,8 +1,0 @@
-use Rattle.dcsctp_delivery_associations.proofs.InOrder.{ends_deliver_in_order, ends_deliver_data_in_order}
-use Rattle.dcsctp_delivery_associations.proofs.laws.ends_deliver_in_order.Goals as goal
-
-pub returns-clause-interleaved : goal.returns-clause-interleaved
-returns-clause-interleaved c = ends_deliver_in_order
-
-pub returns-clause-plain : goal.returns-clause-plain
-returns-clause-plain c = ends_deliver_data_in_order

@@ -1,0 +1,259 @@
+-- Each reset that was performed is a cut at a place where it was asked for.
+use Rattle.std.proofs.Common.{◌≡◌, ℕ, Bool, true, false, ◌<◌, ◌+◌, ◌^◌, List, [], ◌∷◌, length, refl, sym, ◌∙◌, ap, arith, subst, inl, inr}
+use Rattle.std.specs.Prelude.{◌&&◌, Option, None, Some, if◌then◌else◌}
+use Rattle.std.specs.List.{AllByRecursion}
+use Rattle.std.proofs.lemmas.Bool.Decides.{eqb_tells}
+use Rattle.dcsctp_spec.specs.types.declared.options.Options.{Options}
+use Rattle.dcsctp_spec.specs.endpoint.BegunResets.{BegunReset}
+use Rattle.dcsctp_spec.specs.queues.Incoming.{is_named}
+use Rattle.dcsctp_spec.specs.queues.OwnResets.{is_open_pause}
+use Rattle.dcsctp_spec.specs.queues.Reassembly.{ReassemblyState, names_stream, EndsDeferral}
+use Rattle.dcsctp_delivery_directions.specs.sending.Numbers.{is_handed_out, stream_named}
+use Rattle.dcsctp_delivery_directions.specs.sending.Places.{HasEntry}
+use Rattle.dcsctp_delivery_directions.specs.receiving.Clear.{IsOwn}
+use Rattle.dcsctp_delivery_directions.specs.directions.Directions.{Beginning, MayReset, PerformedReset, reset_performed, Direction, Asking, is_reset_reached, assigned_count, DirectionRun, begins, goes_on, starts, DirectionStep, queues, sets, prepares, commits, rolls_back, flushes, resends, resends_nothing, speaks, asks_again, renews, turns_aside, acknowledges, loses, receives, forwards, receives_interleaved, forwards_interleaved, tracks, defers, performs, performs_earlier, resets, takes}
+use Rattle.dcsctp_delivery_directions.proofs.directions.Calm.{none_has, none_asked}
+use Rattle.dcsctp_delivery_directions.proofs.directions.Losing.{same_beginning}
+use Rattle.dcsctp_delivery_directions.proofs.directions.Steps.{more_queued}
+use Rattle.dcsctp_delivery_directions.specs.order.Queue.{Cut, Separates}
+use Rattle.dcsctp_delivery_directions.proofs.order.PlainSteps.{same_kind}
+use Rattle.dcsctp_delivery_directions.specs.epochs.Sending.{EpochBounds, asked_with, newest_ended, asked_ended, IsKnown}
+use Rattle.dcsctp_delivery_directions.specs.epochs.Directions.{asked_after, asked_of, opened_of}
+use Rattle.dcsctp_delivery_directions.specs.epochs.Cuts.{cut_added, cuts_with, cuts_after, cuts_of}
+use Rattle.dcsctp_delivery_directions.specs.epochs.Asked.{AreCutAsAsked}
+use Rattle.dcsctp_delivery_directions.proofs.epochs.Behind.{handed_shut}
+use Rattle.dcsctp_delivery_directions.proofs.epochs.Delivering.{DeliversSo}
+use Rattle.dcsctp_delivery_directions.proofs.epochs.DeliveringRuns.{run_delivers, directions_deliver_by_epoch}
+use Rattle.dcsctp_delivery_directions.proofs.epochs.Performing.{handed}
+
+-- ---- what was asked for
+
+-- The newest request of each stream was one that the user makes.
+abbrev AreAsked : Beginning → (ℕ → EpochBounds) → Type 0
+AreAsked beginning asked = (id place : ℕ) → (asked id).newest ≡ Some place → beginning.asks id place ≡ true
+
+may_named : (beginning : Beginning) (count id : ℕ) (ids : List ℕ) → AllByRecursion (MayReset beginning count) ids → is_named ids id ≡ true → beginning.asks id count ≡ true
+may_named beginning count id [] may named = absurd (cc)
+may_named beginning count id (other ∷ ids) may named =
+    elim (eqb_tells other id) [
+      | inl e ↦ subst (λ (k : ℕ). beginning.asks k count ≡ true) e.1 may.0.asked
+      | inr e ↦ may_named beginning count id ids may.1 (rw e.0 at named)
+    ]
+
+first_of : (b c : Bool) → (b && c) ≡ true → b ≡ true
+first_of true c is = refl
+first_of false c is = absurd (cc)
+
+same_place : {one two : ℕ} → Some one ≡ Some two → one ≡ two
+same_place is = cc
+
+prepared_asked : (old : Direction) (ids : List ℕ) (asked : ℕ → EpochBounds) → AllByRecursion (MayReset old.beginning (length old.queued)) ids → AreAsked old.beginning asked
+    → AreAsked old.beginning (asked_with ids old.queues.queue.streams (length old.queued) asked)
+prepared_asked old ids asked may are id place = go (is_named ids id && is_open_pause (stream_named id old.queues.queue.streams).pause) refl
+  where
+    go : (b : Bool) → (is_named ids id && is_open_pause (stream_named id old.queues.queue.streams).pause) ≡ b → (if b then record (asked id) { newest = Some (length old.queued) } else asked id).newest ≡ Some place
+        → old.beginning.asks id place ≡ true
+    go true both is = subst (λ (k : ℕ). old.beginning.asks id k ≡ true) (same_place is) (may_named old.beginning (length old.queued) id ids may (first_of (is_named ids id) _ both))
+    go false both is = are id place is
+
+ended_asked : (old : Direction) (asked : ℕ → EpochBounds) → AreAsked old.beginning asked → AreAsked old.beginning (asked_ended old.queues.queue.streams asked)
+ended_asked old asked are id place = go (is_handed_out (stream_named id old.queues.queue.streams).pause)
+  where
+    by_newest : (o : Option ℕ) → (asked id).newest ≡ o → (newest_ended (record (asked id) { newest = o })).newest ≡ Some place → old.beginning.asks id place ≡ true
+    by_newest None none is = absurd (cc)
+    by_newest (Some other) some is = are id place (some ∙ is)
+
+    go : (b : Bool) → (if b then newest_ended (asked id) else asked id).newest ≡ Some place → old.beginning.asks id place ≡ true
+    go true is = by_newest (asked id).newest refl is
+    go false is = are id place is
+
+asked_on : (old direction : Direction) (step : DirectionStep old direction) (asked : ℕ → EpochBounds) → AreAsked old.beginning asked → AreAsked direction.beginning (asked_after old direction step asked)
+asked_on old _ (queues now sending fits some) asked are = are
+asked_on old _ (sets setting fits) asked are = are
+asked_on old _ (prepares ids fit kept) asked are = prepared_asked old ids asked kept are
+asked_on old _ (commits go_on) asked are = ended_asked old asked are
+asked_on old _ (rolls_back unmixed) asked are = are
+asked_on old _ (flushes e draft answers same no_data allowed) asked are = are
+asked_on old _ (resends now room transfer left tsns chunks emission known sends fill contents) asked are = are
+asked_on old _ (resends_nothing now room transfer left tsns known sends) asked are = are
+asked_on old _ (speaks emission no_data) asked are = are
+asked_on old _ (asks_again emission begun was contents) asked are = are
+asked_on old _ (renews emission newest earlier number asks out contents) asked are = are
+asked_on old _ (turns_aside transfer new known same) asked are = are
+asked_on old _ (acknowledges now sack transfer new known valid reached does) asked are = are
+asked_on old _ (loses now transfer known) asked are = are
+asked_on old _ (receives emission chunk theirs new was holds some same same' does) asked are = are
+asked_on old _ (forwards emission tsn streams theirs new was holds same same' does) asked are = are
+asked_on old _ (receives_interleaved emission chunk theirs new was holds some same same' does) asked are = are
+asked_on old _ (forwards_interleaved emission tsn streams theirs new was holds same same' does) asked are = are
+asked_on old _ (tracks new cumulative ranges) asked are = are
+asked_on old _ (defers last_tsn streams some) asked are = are
+asked_on old _ (performs newest earlier new asks unknown reached own leaves) asked are = are
+asked_on old _ (performs_earlier newest earlier new asks unknown reached own leaves) asked are = are
+asked_on old _ (resets streams new unmixed some leaves) asked are = are
+asked_on old _ (takes message messages ready) asked are = are
+
+-- ---- what was performed
+
+-- Nothing was performed before something was asked for.
+abbrev NoneEarly : Direction → Type 0
+NoneEarly direction = direction.asking.requests ≡ [] → direction.performed ≡ []
+
+none_newest : (requests : List BegunReset) (newest : BegunReset) (earlier : List BegunReset) → requests ≡ newest ∷ earlier → requests ≡ [] → ⊥
+none_newest requests newest earlier is none = (let clash : ◌≡◌ {A = List BegunReset} (newest ∷ earlier) [] = sym is ∙ none in cc)
+
+early_on : (old direction : Direction) (step : DirectionStep old direction) → NoneEarly old → NoneEarly direction
+early_on old _ (queues now sending fits some) early none = early (none_asked old _ (queues now sending fits some) none)
+early_on old _ (sets setting fits) early none = early (none_asked old _ (sets setting fits) none)
+early_on old _ (prepares ids fit kept) early none = early (none_asked old _ (prepares ids fit kept) none)
+early_on old _ (commits go_on) early none = early (none_asked old _ (commits go_on) none)
+early_on old _ (rolls_back unmixed) early none = early (none_asked old _ (rolls_back unmixed) none)
+early_on old _ (flushes e draft answers same no_data allowed) early none = early (none_asked old _ (flushes e draft answers same no_data allowed) none)
+early_on old _ (resends now room transfer left tsns chunks emission known sends fill contents) early none = early (none_asked old _ (resends now room transfer left tsns chunks emission known sends fill contents) none)
+early_on old _ (resends_nothing now room transfer left tsns known sends) early none = early (none_asked old _ (resends_nothing now room transfer left tsns known sends) none)
+early_on old _ (speaks emission no_data) early none = early (none_asked old _ (speaks emission no_data) none)
+early_on old _ (asks_again emission begun was contents) early none = early (none_asked old _ (asks_again emission begun was contents) none)
+early_on old _ (renews emission newest earlier number asks out contents) early none = early (none_asked old _ (renews emission newest earlier number asks out contents) none)
+early_on old _ (turns_aside transfer new known same) early none = early (none_asked old _ (turns_aside transfer new known same) none)
+early_on old _ (acknowledges now sack transfer new known valid reached does) early none = early (none_asked old _ (acknowledges now sack transfer new known valid reached does) none)
+early_on old _ (loses now transfer known) early none = early (none_asked old _ (loses now transfer known) none)
+early_on old _ (receives emission chunk theirs new was holds some same same' does) early none = early (none_asked old _ (receives emission chunk theirs new was holds some same same' does) none)
+early_on old _ (forwards emission tsn streams theirs new was holds same same' does) early none = early (none_asked old _ (forwards emission tsn streams theirs new was holds same same' does) none)
+early_on old _ (receives_interleaved emission chunk theirs new was holds some same same' does) early none = early (none_asked old _ (receives_interleaved emission chunk theirs new was holds some same same' does) none)
+early_on old _ (forwards_interleaved emission tsn streams theirs new was holds same same' does) early none = early (none_asked old _ (forwards_interleaved emission tsn streams theirs new was holds same same' does) none)
+early_on old _ (tracks new cumulative ranges) early none = early (none_asked old _ (tracks new cumulative ranges) none)
+early_on old _ (defers last_tsn streams some) early none = early (none_asked old _ (defers last_tsn streams some) none)
+early_on old _ (performs newest earlier new asks unknown reached own leaves) early none = absurd (none_newest old.asking.requests newest earlier asks none)
+early_on old _ (performs_earlier newest earlier new asks unknown reached own leaves) early none = absurd (none_newest old.asking.requests newest earlier asks none)
+early_on old _ (resets streams new unmixed some leaves) early none = absurd (none_has old.asking.requests streams some none)
+early_on old _ (takes message messages ready) early none = early (none_asked old _ (takes message messages ready) none)
+
+-- A cut of this index is there, at a place where the reset was asked for.
+record HasCut (beginning : Beginning) (cuts : List Cut) (id index : ℕ) : Type 0 where
+  cut : Cut
+  has : HasEntry cut cuts
+  index_is : cut.index ≡ index
+  asked : beginning.asks id cut.place ≡ true
+
+-- So it is of each reset that was performed, on each stream that was open first.
+abbrev HaveCuts : (ℕ → Bool) → (ℕ → List Cut) → Direction → Type 0
+HaveCuts opened cuts direction = (id : ℕ) → opened id ≡ true → (reset : PerformedReset) → HasEntry reset direction.performed → names_stream reset.streams id ≡ true → HasCut direction.beginning (cuts id) id reset.index
+
+module _ (first : ℕ) (old : Direction) (small : first < 2 ^ 32) (opened : ℕ → Bool) (asked : ℕ → EpochBounds) (cuts : ℕ → List Cut) (d : DeliversSo first old opened asked cuts) (are : AreAsked old.beginning asked)
+    (interleaved : old.queues.queue.is_interleaved ≡ true) (have : HaveCuts opened cuts old) where
+  module _ (newest : BegunReset) (earlier : List BegunReset) (new : ReassemblyState) (asks : old.asking.requests ≡ newest ∷ earlier) (unknown : old.queues.queue.is_interleaved ≡ true → old.asking.is_performed ≡ false)
+      (reached : is_reset_reached newest.reset old.tracker ≡ true) (own : IsOwn newest.reset old.reassembly.deferral) (leaves : EndsDeferral newest.reset.streams old.reassembly new) where
+    abbrev index : ℕ
+    index = length old.read + length new.incoming.ready
+
+    -- It is known when the reset was asked for.
+    known : (id : ℕ) → opened id ≡ true → names_stream newest.reset.streams id ≡ true → IsKnown (asked id)
+    known id open_first names =
+        d.goes.known interleaved id open_first
+        (handed_shut (stream_named id old.queues.queue.streams).pause (handed first old small opened asked cuts d newest earlier new asks unknown reached own leaves interleaved id names))
+
+    new_cut : (id : ℕ) → opened id ≡ true → names_stream newest.reset.streams id ≡ true → HasCut old.beginning (cuts_with newest.reset.streams index asked cuts id) id index
+    new_cut id open_first names =
+        let k = known id open_first names in
+        rw names (rw k.is (record { cut = record { index = index; place = k.place }; has = inl refl; index_is = refl; asked = are id k.place k.is }))
+
+    cut_kept : (id : ℕ) (cut : Cut) (b : Bool) (o : Option ℕ) → HasEntry cut (cuts id) → HasEntry cut (if b then cut_added index o (cuts id) else cuts id)
+    cut_kept id cut true None has = has
+    cut_kept id cut true (Some place) has = inr has
+    cut_kept id cut false o has = has
+
+    performing_cuts : HaveCuts opened (cuts_with newest.reset.streams index asked cuts) (record old { reassembly = new; performed = reset_performed newest.reset.streams old.read new ∷ old.performed })
+    performing_cuts id open_first reset has names =
+        elim has [
+          | inl e ↦
+              subst (λ (r : PerformedReset). HasCut old.beginning (cuts_with newest.reset.streams index asked cuts id) id r.index) (sym e)
+              (new_cut id open_first (subst (λ (r : PerformedReset). names_stream r.streams id ≡ true) e names))
+          | inr t ↦
+              (let c = have id open_first reset t names in
+              record { cut = c.cut; has = cut_kept id c.cut (names_stream newest.reset.streams id) (asked id).newest c.has; index_is = c.index_is; asked = c.asked })
+        ]
+
+  cuts_on : (direction : Direction) (step : DirectionStep old direction) → HaveCuts opened (cuts_after old direction step asked cuts) direction
+  cuts_on _ (queues now sending fits some) = have
+  cuts_on _ (sets setting fits) = have
+  cuts_on _ (prepares ids fit kept) = have
+  cuts_on _ (commits go_on) = have
+  cuts_on _ (rolls_back unmixed) = have
+  cuts_on _ (flushes e draft answers same no_data allowed) = have
+  cuts_on _ (resends now room transfer left tsns chunks emission known sends fill contents) = have
+  cuts_on _ (resends_nothing now room transfer left tsns known sends) = have
+  cuts_on _ (speaks emission no_data) = have
+  cuts_on _ (asks_again emission begun was contents) = have
+  cuts_on _ (renews emission newest earlier number asks out contents) = have
+  cuts_on _ (turns_aside transfer new known same) = have
+  cuts_on _ (acknowledges now sack transfer new known valid reached does) = have
+  cuts_on _ (loses now transfer known) = have
+  cuts_on _ (receives emission chunk theirs new was holds some same same' does) = have
+  cuts_on _ (forwards emission tsn streams theirs new was holds same same' does) = have
+  cuts_on _ (receives_interleaved emission chunk theirs new was holds some same same' does) = have
+  cuts_on _ (forwards_interleaved emission tsn streams theirs new was holds same same' does) = have
+  cuts_on _ (tracks new cumulative ranges) = have
+  cuts_on _ (defers last_tsn streams some) = have
+  cuts_on _ (performs newest earlier new asks unknown reached own leaves) = performing_cuts newest earlier new asks unknown reached own leaves
+  cuts_on _ (performs_earlier newest earlier new asks unknown reached own leaves) = performing_cuts newest earlier new asks unknown reached own leaves
+  cuts_on _ (resets streams new unmixed some leaves) = absurd (let clash : true ≡ false = sym interleaved ∙ unmixed in cc)
+  cuts_on _ (takes message messages ready) = have
+
+-- ---- a run
+
+-- Nothing is performed where nothing was asked for.
+pub none_performed : (options : Options) (first size : ℕ) (direction : Direction) → DirectionRun options first size direction → direction.asking.requests ≡ [] → direction.performed ≡ []
+none_performed options first size _ (begins direction b) none = b.performed
+none_performed options first size _ (goes_on old direction run step) none = early_on old direction step (none_performed options first size old run) none
+none_performed options first size _ (starts old queued below beginning run awaited fit waits idle begun) none = none_performed options first size old run (ap (λ (x : Asking). x.requests) awaited.asking)
+
+record AsksSo (direction : Direction) (opened : ℕ → Bool) (asked : ℕ → EpochBounds) (cuts : ℕ → List Cut) : Type 0 where
+  are : AreAsked direction.beginning asked
+  have : direction.queues.queue.is_interleaved ≡ true → HaveCuts opened cuts direction
+
+asks_new : (direction : Direction) (opened : ℕ → Bool) → direction.performed ≡ [] → AsksSo direction opened (λ id. record { newest = None; ended = 0 }) (λ id. [])
+asks_new direction opened none =
+    record {
+      are = λ id place is. absurd (cc);
+      have = λ interleaved id open_first reset has. absurd (subst (HasEntry reset) none has);
+    }
+
+run_asks : (options : Options) (first size : ℕ) (direction : Direction) → first < 2 ^ 32 → length direction.queued < 2 ^ 64 → (run : DirectionRun options first size direction)
+    → AsksSo direction (opened_of options first size direction run) (asked_of options first size direction run) (cuts_of options first size direction run)
+run_asks options first size _ small few (begins direction b) = asks_new direction _ b.performed
+run_asks options first size _ small few (goes_on old direction run step) =
+    let fewer : length old.queued < 2 ^ 64 = omega (arith, few, more_queued old direction step) in
+    let a = run_asks options first size old small fewer run in
+    let d = run_delivers options first size old small fewer run in
+    record {
+      are = asked_on old direction step (asked_of options first size old run) a.are;
+      have = λ interleaved. (
+          let was : old.queues.queue.is_interleaved ≡ true = sym (same_kind old direction step) ∙ interleaved in
+          cuts_on first old small (opened_of options first size old run) (asked_of options first size old run) (cuts_of options first size old run) d a.are was (a.have was) direction step
+          );
+    }
+run_asks options first size _ small few (starts old queued below beginning run awaited fit waits none begun) =
+    asks_new (record old { queued = queued; queues = below; beginning = beginning }) _ (none_performed options first size old run (ap (λ (x : Asking). x.requests) awaited.asking))
+
+-- Where the numbers begin at 0 each stream was open first.
+opened_so : (options : Options) (first size : ℕ) (direction : Direction) (run : DirectionRun options first size direction) → direction.beginning.from_zero ≡ true → (id : ℕ) → opened_of options first size direction run id ≡ true
+opened_so options first size _ (begins direction b) from id = (b.begun.zero from).unpaused id
+opened_so options first size _ (goes_on old direction run step) from id = opened_so options first size old run (ap (λ (b : Beginning). b.from_zero) (sym (same_beginning old direction step)) ∙ from) id
+opened_so options first size _ (starts old queued below beginning run awaited fit waits none begun) from id = (begun.zero from).unpaused id
+
+pub directions_cut_as_asked : (options : Options) (first size : ℕ) (direction : Direction) → DirectionRun options first size direction → first < 2 ^ 32 → assigned_count direction < 2 ^ 31 → length direction.queued < 2 ^ 64
+    → direction.queues.queue.is_interleaved ≡ true → direction.beginning.from_zero ≡ true → AreCutAsAsked direction.beginning.asks direction.performed direction.queued direction.read
+directions_cut_as_asked options first size direction run small little few interleaved from =
+    let d = directions_deliver_by_epoch options first size direction run small little few interleaved from in
+    let a = run_asks options first size direction small few run in
+    record {
+      ordered = d.ordered;
+      cut = λ id reset has names. (
+          let c = a.have interleaved id (opened_so options first size direction run from id) reset has names in
+          record {
+            place = c.cut.place;
+            asked = c.asked;
+            separates = subst (λ (k : ℕ). Separates direction.queued id k c.cut.place d.ordered.delivered.places) c.index_is (d.epochs id c.cut c.has);
+          }
+          );
+    }

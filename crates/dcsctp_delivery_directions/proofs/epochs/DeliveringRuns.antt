@@ -1,0 +1,171 @@
+-- With interleaving what is read of a stream is separated by its resets, as it was queued.
+use Rattle.std.proofs.Common.{◌≡◌, ℕ, Bool, true, false, ◌<◌, ◌≤◌, ◌%◌, ◌^◌, List, [], ◌++◌, length, refl, sym, ◌∙◌, ap, arith, subst, inl, inr}
+use Rattle.std.specs.Prelude.{◌⊎◌, Option, None, Some, if◌then◌else◌}
+use Rattle.dcsctp_spec.specs.types.declared.options.Options.{Options}
+use Rattle.dcsctp_spec.specs.queues.Incoming.{stream_on}
+use Rattle.dcsctp_spec.specs.queues.OwnResets.{queue_committed}
+use Rattle.dcsctp_delivery_directions.specs.sending.Log.{Message, History, sent_messages}
+use Rattle.dcsctp_delivery_directions.specs.sending.Numbers.{is_handed_out, stream_named}
+use Rattle.dcsctp_delivery_directions.specs.sending.Queueing.{floors_raised}
+use Rattle.dcsctp_delivery_directions.proofs.sending.Chunks.{kinds_of}
+use Rattle.dcsctp_delivery_directions.proofs.sending.Counting.{told}
+use Rattle.dcsctp_delivery_directions.specs.receiving.Ready.{AreDistinct, WereQueued}
+use Rattle.dcsctp_delivery_directions.specs.directions.Directions.{Direction, assigned_count, Asking, all_ended, BeginsDirection, DirectionRun, begins, goes_on, starts, DirectionStep, queues, sets, prepares, commits, rolls_back, flushes, resends, resends_nothing, speaks, asks_again, renews, turns_aside, acknowledges, loses, receives, forwards, receives_interleaved, forwards_interleaved, tracks, defers, performs, performs_earlier, resets, takes}
+use Rattle.dcsctp_delivery_directions.proofs.directions.Continuing.{begun_history, started_history}
+use Rattle.dcsctp_delivery_directions.proofs.directions.Directions.{begun_stands, started_stands}
+use Rattle.dcsctp_delivery_directions.proofs.directions.Standing.{Stands}
+use Rattle.dcsctp_delivery_directions.proofs.directions.Steps.{more_queued}
+use Rattle.dcsctp_delivery_directions.specs.order.Incoming.{IncomingOrdered}
+use Rattle.dcsctp_delivery_directions.specs.order.Queue.{Cut}
+use Rattle.dcsctp_delivery_directions.specs.order.Reading.{CountsFromZero}
+use Rattle.dcsctp_delivery_directions.specs.order.Received.{ReassemblesInOrder, none_handled, some_handled}
+use Rattle.dcsctp_delivery_directions.proofs.order.Beginning.{waits_from}
+use Rattle.dcsctp_delivery_directions.proofs.order.Directions.{raised_zero}
+use Rattle.dcsctp_delivery_directions.proofs.order.Follows.{counts_from_zero}
+use Rattle.dcsctp_delivery_directions.proofs.order.Incoming.{separated_where, ordered_was_read}
+use Rattle.dcsctp_delivery_directions.proofs.order.Quiet.{Arrives}
+use Rattle.dcsctp_delivery_directions.proofs.order.Separated.{front_separate}
+use Rattle.dcsctp_delivery_directions.proofs.order.Steps.{committing_arrives}
+use Rattle.dcsctp_delivery_directions.specs.epochs.Sending.{EpochBounds, newest_ended, asked_ended}
+use Rattle.dcsctp_delivery_directions.specs.epochs.Directions.{asked_after, asked_of, opened_of}
+use Rattle.dcsctp_delivery_directions.specs.epochs.Cuts.{cuts_after, cuts_of, AreDeliveredByEpoch}
+use Rattle.dcsctp_delivery_directions.proofs.epochs.SendingRuns.{goes_further, goes_ends}
+use Rattle.dcsctp_delivery_directions.proofs.epochs.Behind.{watch_of, none_free, IsPending, AreBehind}
+use Rattle.dcsctp_delivery_directions.proofs.epochs.Delivering.{DeliversSo, delivers_new, further, further_same}
+use Rattle.dcsctp_delivery_directions.proofs.epochs.Performing.{added, added_behind, recut}
+
+-- ---- a reset ends
+
+module _ (first : ℕ) (old : Direction) (small : first < 2 ^ 32) (opened : ℕ → Bool) (asked : ℕ → EpochBounds) (cuts : ℕ → List Cut) (d : DeliversSo first old opened asked cuts) where
+  abbrev stands : Stands first old
+  stands = d.goes.stands
+
+  ended_behind : old.queues.queue.is_interleaved ≡ true → AreBehind (queue_committed old.queues.queue).streams (asked_ended old.queues.queue.streams asked) cuts
+  ended_behind interleaved id cut has =
+      inl (go (is_handed_out (stream_named id old.queues.queue.streams).pause) refl (asked id).newest refl (d.behind interleaved id cut has))
+    where
+      up : (place : ℕ) → (asked id).newest ≡ Some place → (asked id).ended ≤ place
+      up place is = ((d.goes.by_epoch interleaved id).newest place is).0
+
+      go : (b : Bool) → is_handed_out (stream_named id old.queues.queue.streams).pause ≡ b → (o : Option ℕ) → (asked id).newest ≡ o → (cut.place ≤ (asked id).ended) ⊎ IsPending old.queues.queue.streams id (asked id) cut
+          → cut.place ≤ (if b then newest_ended (asked id) else asked id).ended
+      go false shut o is behind = elim behind [ inl low ↦ low | inr p ↦ absurd (let no : true ≡ false = sym p.handed ∙ shut in cc) ]
+      go true handed' None is behind =
+          elim behind [
+            | inl low ↦ rw is low
+            | inr p ↦ absurd (let no : None ≡ Some p.place = sym is ∙ p.newest in cc)
+          ]
+      go true handed' (Some place) is behind =
+          elim behind [
+            | inl low ↦ rw is (let high = up place is in omega (arith, low, high))
+            | inr p ↦ rw is (let both : Some place ≡ Some p.place = sym is ∙ p.newest in let same : place ≡ p.place = cc in let below = p.below in omega (arith, below, same))
+          ]
+
+  ends : (few : length old.queued < 2 ^ 64) (go_on : old.queues.queue.is_interleaved ≡ true → (old.asking.out ≤ 1) × (old.asking.is_performed ≡ true))
+      → DeliversSo first (record old { queues = record old.queues { queue = queue_committed old.queues.queue }; asking = all_ended old.asking }) opened (asked_ended old.queues.queue.streams asked) cuts
+  ends few go_on =
+      record {
+        goes = goes_further first old small opened asked d.goes _ few (commits go_on);
+        named = λ mark earlier is some. absurd (omega (arith, some));
+        unended = λ interleaved unknown. absurd (let clash : true ≡ false = sym (go_on interleaved).1 ∙ unknown in cc);
+        zero = λ interleaved from id.
+            subst (λ (h : History). h.floors id false % 2 ^ 32 ≡ 0) (sym (raises interleaved))
+            (raised_zero (is_handed_out (stream_named id old.queues.queue.streams).pause) (stands.history.floors id false) (length stands.history.log) (d.zero interleaved from id));
+        behind = ended_behind;
+        arrives = λ little interleaved from. (
+            let before : length stands.history.log < 2 ^ 31 = subst (λ (h : History). length h.log < 2 ^ 31) (raises interleaved) little in
+            subst (λ (h : History). Arrives (watch_of cuts) first h old.queued old.read old.tracker old.reassembly (queue_committed old.queues.queue).streams) (sym (raises interleaved))
+            (committing_arrives (watch_of cuts) first old small stands (none_free cuts stands.history.log) before interleaved (go_on interleaved).0 (go_on interleaved).1 (d.zero interleaved from) (d.arrives before interleaved from))
+            );
+      }
+    where
+      raises : old.queues.queue.is_interleaved ≡ true → (goes_further first old small opened asked d.goes (record old { queues = record old.queues { queue = queue_committed old.queues.queue }; asking = all_ended old.asking }) few (commits go_on)).stands.history
+          ≡ floors_raised old.queues.queue.streams stands.history
+      raises interleaved = goes_ends first old small opened asked d.goes few go_on interleaved
+
+  -- ---- each step
+
+  delivers_on : (direction : Direction) (few : length direction.queued < 2 ^ 64) (step : DirectionStep old direction) → DeliversSo first direction opened (asked_after old direction step asked) (cuts_after old direction step asked cuts)
+  delivers_on _ few (commits go_on) = ends few go_on
+  delivers_on _ few (rolls_back unmixed) =
+      record {
+        goes = goes_further first old small opened asked d.goes _ few (rolls_back unmixed);
+        named = λ mark earlier is some. absurd (omega (arith, some));
+        unended = λ interleaved. absurd (let clash : true ≡ false = sym interleaved ∙ unmixed in cc);
+        zero = λ interleaved. absurd (let clash : true ≡ false = sym interleaved ∙ unmixed in cc);
+        behind = λ interleaved. absurd (let clash : true ≡ false = sym interleaved ∙ unmixed in cc);
+        arrives = λ little interleaved. absurd (let clash : true ≡ false = sym interleaved ∙ unmixed in cc);
+      }
+  delivers_on _ few (performs newest earlier new asks unknown reached own leaves) =
+      further first old small opened asked cuts d _ few (performs newest earlier new asks unknown reached own leaves) (added first old small opened asked cuts d newest earlier new asks unknown reached own leaves) tt (added_behind first old small opened asked cuts d newest earlier new asks unknown reached own leaves)
+      (recut first old small opened asked cuts d newest earlier new asks unknown reached own leaves)
+  delivers_on _ few (performs_earlier newest earlier new asks unknown reached own leaves) =
+      further first old small opened asked cuts d _ few (performs_earlier newest earlier new asks unknown reached own leaves) (added first old small opened asked cuts d newest earlier new asks unknown reached own leaves) tt (added_behind first old small opened asked cuts d newest earlier new asks unknown reached own leaves)
+      (recut first old small opened asked cuts d newest earlier new asks unknown reached own leaves)
+  delivers_on _ few (queues now sending fits some) = further_same first old small opened asked cuts d _ few (queues now sending fits some) tt
+  delivers_on _ few (sets setting fits) = further_same first old small opened asked cuts d _ few (sets setting fits) tt
+  delivers_on _ few (prepares ids fit kept) = further_same first old small opened asked cuts d _ few (prepares ids fit kept) tt
+  delivers_on _ few (flushes e draft answers same no_data allowed) = further_same first old small opened asked cuts d _ few (flushes e draft answers same no_data allowed) tt
+  delivers_on _ few (resends now room transfer left tsns chunks emission known sends are contents) = further_same first old small opened asked cuts d _ few (resends now room transfer left tsns chunks emission known sends are contents) tt
+  delivers_on _ few (resends_nothing now room transfer left tsns known sends) = further_same first old small opened asked cuts d _ few (resends_nothing now room transfer left tsns known sends) tt
+  delivers_on _ few (speaks emission no_data) = further_same first old small opened asked cuts d _ few (speaks emission no_data) tt
+  delivers_on _ few (asks_again emission begun was contents) = further_same first old small opened asked cuts d _ few (asks_again emission begun was contents) tt
+  delivers_on _ few (renews emission newest earlier number asks out contents) = further_same first old small opened asked cuts d _ few (renews emission newest earlier number asks out contents) tt
+  delivers_on _ few (turns_aside transfer new known same) = further_same first old small opened asked cuts d _ few (turns_aside transfer new known same) tt
+  delivers_on _ few (acknowledges now sack transfer new known valid reached does) = further_same first old small opened asked cuts d _ few (acknowledges now sack transfer new known valid reached does) tt
+  delivers_on _ few (loses now transfer known) = further_same first old small opened asked cuts d _ few (loses now transfer known) tt
+  delivers_on _ few (receives emission chunk theirs new was holds some same same' does) = further_same first old small opened asked cuts d _ few (receives emission chunk theirs new was holds some same same' does) tt
+  delivers_on _ few (forwards emission tsn streams theirs new was holds same same' does) = further_same first old small opened asked cuts d _ few (forwards emission tsn streams theirs new was holds same same' does) tt
+  delivers_on _ few (receives_interleaved emission chunk theirs new was holds some same same' does) = further_same first old small opened asked cuts d _ few (receives_interleaved emission chunk theirs new was holds some same same' does) tt
+  delivers_on _ few (forwards_interleaved emission tsn streams theirs new was holds same same' does) = further_same first old small opened asked cuts d _ few (forwards_interleaved emission tsn streams theirs new was holds same same' does) tt
+  delivers_on _ few (tracks new cumulative ranges) = further_same first old small opened asked cuts d _ few (tracks new cumulative ranges) tt
+  delivers_on _ few (defers last_tsn streams some) = further_same first old small opened asked cuts d _ few (defers last_tsn streams some) tt
+  delivers_on _ few (resets streams new unmixed some leaves) = further_same first old small opened asked cuts d _ few (resets streams new unmixed some leaves) tt
+  delivers_on _ few (takes message messages ready) = further_same first old small opened asked cuts d _ few (takes message messages ready) tt
+
+-- ---- a run
+
+pub run_delivers : (options : Options) (first size : ℕ) (direction : Direction) → first < 2 ^ 32 → length direction.queued < 2 ^ 64 → (run : DirectionRun options first size direction)
+    → DeliversSo first direction (opened_of options first size direction run) (asked_of options first size direction run) (cuts_of options first size direction run)
+run_delivers options first size _ small few (begins direction b) =
+    let w = waits_from direction.queued direction.queues.queue b.queues in
+    let b' : BeginsDirection options first size direction = record b { queues = w.waits } in
+    delivers_new first direction (begun_stands options first size direction small b') w.waits.floors (begun_history options first size direction small b') (ap (λ (a : Asking). a.out) b.asking) (ap (λ (a : Asking). a.requests) b.asking)
+    (λ from. w.zero (b.begun.zero from))
+run_delivers options first size _ small few (goes_on old direction run step) =
+    delivers_on first old small (opened_of options first size old run) (asked_of options first size old run) (cuts_of options first size old run) (run_delivers options first size old small (omega (arith, few, more_queued old direction step)) run) direction few step
+run_delivers options first size _ small few (starts old queued below beginning run awaited fit waits idle begun) =
+    let none_queued : length old.queued ≡ 0 = ap (λ (l : List Message). length l) awaited.queued in
+    let d = run_delivers options first size old small (omega (arith, none_queued)) run in
+    let w = waits_from queued below.queue waits in
+    let direction : Direction = record old { queued = queued; queues = below; beginning = beginning } in
+    delivers_new first direction (started_stands first old queued below beginning d.goes.stands awaited small fit w.waits idle) w.waits.floors (started_history first old queued below beginning d.goes.stands awaited small fit w.waits idle)
+    (ap (λ (a : Asking). a.out) awaited.asking) (ap (λ (a : Asking). a.requests) awaited.asking) (λ from. w.zero (begun.zero from))
+
+pub directions_deliver_by_epoch : (options : Options) (first size : ℕ) (direction : Direction) (run : DirectionRun options first size direction) → first < 2 ^ 32 → assigned_count direction < 2 ^ 31 → length direction.queued < 2 ^ 64
+    → direction.queues.queue.is_interleaved ≡ true → direction.beginning.from_zero ≡ true → AreDeliveredByEpoch (cuts_of options first size direction run) direction.queued direction.read
+directions_deliver_by_epoch options first size direction run small little few interleaved from =
+    let d = run_delivers options first size direction small few run in
+    let s = d.goes.stands in
+    let count = s.count in
+    let low : length s.history.log < 2 ^ 31 = omega (arith, count, little) in
+    let a = d.arrives low interleaved from in
+    let counts = λ (id : ℕ). counts_from_zero direction.queued s.history id s.queues.cut (told s.history direction.queues.queue s.queues.numbers low) (kinds_of s.queues.numbers (sym interleaved)) (d.zero interleaved from id) in
+    go s a.quiet a.received.got a.places a.were a.once counts a.received.holds
+  where
+    read : (s : Stands first direction) (quiet : ℕ → Bool) (got : List ℕ) (base : ℕ) (places : List ℕ) → WereQueued direction.queued places direction.read → AreDistinct places → ((id : ℕ) → CountsFromZero s.history id)
+        → IncomingOrdered (watch_of (cuts_of options first size direction run)) (sent_messages direction.queued s.history) quiet got base places direction.reassembly.incoming → AreDeliveredByEpoch (cuts_of options first size direction run) direction.queued direction.read
+    read s quiet got base places were once counts o =
+        record {
+          ordered = record {
+            delivered = record { places = places; were_queued = were; once = once };
+            in_order = λ id. ordered_was_read (watch_of (cuts_of options first size direction run)) direction.queued s.history quiet got base places direction.reassembly.incoming id (counts id) o;
+          };
+          epochs = λ id cut has. front_separate direction.queued id cut.index cut.place places o.holds.places
+              (separated_where (watch_of (cuts_of options first size direction run) id) direction.queued s.history (quiet id) id (places ++ o.holds.places) (o.holds.waits id) (stream_on id direction.reassembly.incoming.streams) (o.order id (counts id)) cut has).1;
+        }
+
+    go : (s : Stands first direction) (quiet : ℕ → Bool) (got places : List ℕ) → WereQueued direction.queued places direction.read → AreDistinct places → ((id : ℕ) → CountsFromZero s.history id)
+        → ReassemblesInOrder (watch_of (cuts_of options first size direction run)) (sent_messages direction.queued s.history) quiet first got places direction.reassembly.incoming → AreDeliveredByEpoch (cuts_of options first size direction run) direction.queued direction.read
+    go s quiet got places were once counts (none_handled none' last empty') = read s quiet [] 0 places were once counts (empty' 0)
+    go s quiet got places were once counts (some_handled base is holds) = read s quiet got base places were once counts holds

@@ -1,0 +1,162 @@
+-- A reset of streams is performed: all that was sent on them was queued before it was asked for.
+use Rattle.std.proofs.Common.{◌≡◌, ℕ, suc, Bool, true, false, ◌<◌, ◌≤◌, ◌+◌, ◌^◌, List, [], ◌∷◌, ◌++◌, length, length-append, refl, sym, ◌∙◌, ap, arith, subst, inl, inr}
+use Rattle.std.specs.Prelude.{◌⊎◌, Option, None, Some, if◌then◌else◌}
+use Rattle.dcsctp_spec.specs.types.queues.Messages.{MessageContent}
+use Rattle.dcsctp_spec.specs.endpoint.BegunResets.{BegunReset}
+use Rattle.dcsctp_spec.specs.queues.Incoming.{stream_on}
+use Rattle.dcsctp_spec.specs.queues.IncomingStreams.{StreamModel}
+use Rattle.dcsctp_spec.specs.queues.OwnResets.{is_open_pause}
+use Rattle.dcsctp_spec.specs.queues.Reassembly.{ReassemblyState, names_stream, EndsDeferral}
+use Rattle.dcsctp_delivery_directions.specs.sending.Log.{Message, sent_messages}
+use Rattle.dcsctp_delivery_directions.specs.sending.Numbers.{is_handed_out, stream_named}
+use Rattle.dcsctp_delivery_directions.specs.sending.Places.{HasEntry, at_place}
+use Rattle.dcsctp_delivery_directions.specs.receiving.Clear.{IsOwn}
+use Rattle.dcsctp_delivery_directions.specs.receiving.Ready.{WereQueued}
+use Rattle.dcsctp_delivery_directions.specs.receiving.Rows.{Spent}
+use Rattle.dcsctp_delivery_directions.specs.directions.Directions.{Direction, is_reset_reached}
+use Rattle.dcsctp_delivery_directions.proofs.directions.Performing.{newest_of}
+use Rattle.dcsctp_delivery_directions.proofs.directions.Standing.{Stands}
+use Rattle.dcsctp_delivery_directions.specs.order.Incoming.{IsOrderedOrReset, IncomingOrdered}
+use Rattle.dcsctp_delivery_directions.specs.order.Order.{IsBetweenResets}
+use Rattle.dcsctp_delivery_directions.specs.order.Queue.{Cut, Separates, AreSeparated}
+use Rattle.dcsctp_delivery_directions.specs.order.Received.{ReassemblesInOrder, none_handled, some_handled}
+use Rattle.dcsctp_delivery_directions.proofs.order.Quiet.{Arrives, performing_arrives, performed_quiet}
+use Rattle.dcsctp_delivery_directions.proofs.order.Separated.{all_separate}
+use Rattle.dcsctp_delivery_directions.specs.epochs.Sending.{EpochBounds, HaltsBefore, SendsByEpoch}
+use Rattle.dcsctp_delivery_directions.specs.epochs.Cuts.{cut_added, cuts_with}
+use Rattle.dcsctp_delivery_directions.proofs.epochs.Behind.{watch_of, none_free, IsPending, AreBehind, handed_shut}
+use Rattle.dcsctp_delivery_directions.proofs.epochs.Delivering.{DeliversSo}
+
+module _ (first : ℕ) (old : Direction) (small : first < 2 ^ 32) (opened : ℕ → Bool) (asked : ℕ → EpochBounds) (cuts : ℕ → List Cut) (d : DeliversSo first old opened asked cuts) where
+  abbrev stands : Stands first old
+  stands = d.goes.stands
+
+  module _ (newest : BegunReset) (earlier : List BegunReset) (new : ReassemblyState) (asks : old.asking.requests ≡ newest ∷ earlier) (unknown : old.queues.queue.is_interleaved ≡ true → old.asking.is_performed ≡ false)
+      (reached : is_reset_reached newest.reset old.tracker ≡ true) (own : IsOwn newest.reset old.reassembly.deferral) (leaves : EndsDeferral newest.reset.streams old.reassembly new) where
+    abbrev pub index : ℕ
+    index = length old.read + length new.incoming.ready
+
+    abbrev pub added : ℕ → List Cut
+    added = cuts_with newest.reset.streams index asked cuts
+
+    some_out : old.queues.queue.is_interleaved ≡ true → 0 < old.asking.out
+    some_out interleaved =
+        elim (d.unended interleaved (unknown interleaved)) [
+          | inl none ↦ absurd (let clash : newest ∷ earlier ≡ [] = sym asks ∙ none in cc)
+          | inr some ↦ some
+        ]
+
+    -- each stream that it names is handed out
+    pub handed : old.queues.queue.is_interleaved ≡ true → (id : ℕ) → names_stream newest.reset.streams id ≡ true → is_handed_out (stream_named id old.queues.queue.streams).pause ≡ true
+    handed interleaved id names =
+        let m = newest_of stands.history.marks newest earlier (sym stands.asked ∙ asks) in
+        (d.named m.mark m.earlier m.is (some_out interleaved) id (subst (λ (b : BegunReset). names_stream b.reset.streams id ≡ true) (sym m.begins) names)).handed
+
+    pub added_behind : old.queues.queue.is_interleaved ≡ true → AreBehind old.queues.queue.streams asked added
+    added_behind interleaved id cut has = go (names_stream newest.reset.streams id) refl (asked id).newest refl has
+      where
+        go : (b : Bool) → names_stream newest.reset.streams id ≡ b → (o : Option ℕ) → (asked id).newest ≡ o → HasEntry cut (if b then cut_added index o (cuts id) else cuts id)
+            → (cut.place ≤ (asked id).ended) ⊎ IsPending old.queues.queue.streams id (asked id) cut
+        go false names o is has' = d.behind interleaved id cut has'
+        go true names None is has' = d.behind interleaved id cut has'
+        go true names (Some place) is has' =
+            elim has' [
+              | inl e ↦ inr (record { handed = handed interleaved id names; place = place; newest = is; below = (let same : cut.place ≡ place = ap (λ (c : Cut). c.place) e in omega (arith, same)) })
+              | inr t ↦ d.behind interleaved id cut t
+            ]
+
+    were_length : (queued : List Message) (places : List ℕ) (contents : List MessageContent) → WereQueued queued places contents → length places ≡ length contents
+    were_length queued [] [] were = refl
+    were_length queued [] (c ∷ contents) were = absurd were
+    were_length queued (p ∷ places) [] were = absurd were
+    were_length queued (p ∷ places) (c ∷ contents) were = ap suc (were_length queued places contents were.1)
+
+    module _ (before : length stands.history.log < 2 ^ 31) (interleaved : old.queues.queue.is_interleaved ≡ true) (from : old.beginning.from_zero ≡ true) where
+      performed : Arrives (watch_of cuts) first stands.history old.queued old.read old.tracker new old.queues.queue.streams
+      performed =
+          performing_arrives (watch_of cuts) first old small stands (none_free cuts stands.history.log) before interleaved newest earlier new asks (some_out interleaved) d.named reached own leaves (d.arrives before interleaved from)
+
+      -- the streams that it names are quiet then
+      named_quiet : (id : ℕ) → names_stream newest.reset.streams id ≡ true → performed.quiet id ≡ true
+      unfolding performed
+      named_quiet id names =
+          performed_quiet (watch_of cuts) first old small stands (none_free cuts stands.history.log) before interleaved newest earlier new asks (some_out interleaved) d.named reached own leaves (d.arrives before interleaved from) id names
+
+      -- all that was sent on them was queued before it was asked for
+      stops : (id place : ℕ) → names_stream newest.reset.streams id ≡ true → (asked id).newest ≡ Some place → HaltsBefore stands.history old.queues.queue id place
+      stops id place names is = go (asked id).newest is (d.goes.by_epoch interleaved id)
+        where
+          shut : is_open_pause (stream_named id old.queues.queue.streams).pause ≡ false
+          shut = handed_shut (stream_named id old.queues.queue.streams).pause (handed interleaved id names)
+
+          go : (o : Option ℕ) → o ≡ Some place → SendsByEpoch (length old.queued) stands.history old.queues.queue id (record (asked id) { newest = o }) → HaltsBefore stands.history old.queues.queue id place
+          go None same e = absurd (cc)
+          go (Some other) same e = let one : other ≡ place = cc in subst (λ (k : ℕ). HaltsBefore stands.history old.queues.queue id k) one (e.stops shut)
+
+      recut_stream : (id : ℕ) (got all waits : List ℕ) (stream : StreamModel) → length all ≡ index → ((p : ℕ) → HasEntry p all → Spent stands.history.log got p) → IsOrderedOrReset (watch_of cuts id) (performed.quiet id) (sent_messages old.queued stands.history) id all waits stream
+          → IsOrderedOrReset (watch_of added id) (performed.quiet id) (sent_messages old.queued stands.history) id all waits stream
+      recut_stream id got all waits stream size spent ordered = go (names_stream newest.reset.streams id) refl (asked id).newest refl
+        where
+          go : (b : Bool) → names_stream newest.reset.streams id ≡ b → (o : Option ℕ) → (asked id).newest ≡ o
+              → IsOrderedOrReset (record { is_gapless = false; cuts = if b then cut_added index o (cuts id) else cuts id }) (performed.quiet id) (sent_messages old.queued stands.history) id all waits stream
+          go false names o is = ordered
+          go true names None is = ordered
+          go true names (Some place) is =
+              let both : IsBetweenResets old.queued stands.history id all × AreSeparated old.queued id (cuts id) all =
+              subst (λ (b : Bool). IsOrderedOrReset (watch_of cuts id) b (sent_messages old.queued stands.history) id all waits stream) (named_quiet id names) ordered in
+              let its = stops id place names is in
+              let cut : Separates old.queued id index place all =
+              subst (λ (k : ℕ). Separates old.queued id k place all) size
+              (all_separate old.queued id place all
+              (λ p has on. (
+              let sent = spent p has in
+              let one : Some sent.head.message ≡ Some on.message = sym (stands.queues.cut.pieces sent.offset sent.head sent.at_head).at ∙ ap (λ (k : ℕ). at_place k old.queued) sent.is ∙ on.at in
+              let message : sent.head.message ≡ on.message = cc in
+              let low = its.sent sent.offset sent.head sent.at_head (ap (λ (m : Message). m.stream) message ∙ on.stream) in
+              let same = sent.is in
+              omega (arith, low, same)
+              ))) in
+              subst (λ (b : Bool). IsOrderedOrReset (record { is_gapless = false; cuts = record { index = index; place = place } ∷ cuts id }) b (sent_messages old.queued stands.history) id all waits stream) (sym (named_quiet id names)) (
+                both.0,
+                λ c has. elim has [
+                  | inl e ↦ subst (λ (x : Cut). (x.index ≤ length all) × Separates old.queued id x.index x.place all) (sym e) (omega (arith, size), cut)
+                  | inr t ↦ both.1 c t
+                ],
+              )
+
+      recut_incoming : (got : List ℕ) (base : ℕ) → IncomingOrdered (watch_of cuts) (sent_messages old.queued stands.history) performed.quiet got base performed.places new.incoming → IncomingOrdered (watch_of added) (sent_messages old.queued stands.history) performed.quiet got base performed.places new.incoming
+      recut_incoming got base o =
+          record {
+            holds = o.holds;
+            order = λ id counts. recut_stream id got (performed.places ++ o.holds.places) (o.holds.waits id) (stream_on id new.incoming.streams)
+                (length-append performed.places o.holds.places
+                ∙ (let one = were_length old.queued performed.places old.read performed.were in let two = were_length old.queued o.holds.places new.incoming.ready o.holds.were_queued in omega (arith, one, two))) o.holds.spent (o.order id counts);
+          }
+
+      recut_reassembles : (got : List ℕ) → ReassemblesInOrder (watch_of cuts) (sent_messages old.queued stands.history) performed.quiet first got performed.places new.incoming
+          → ReassemblesInOrder (watch_of added) (sent_messages old.queued stands.history) performed.quiet first got performed.places new.incoming
+      recut_reassembles got (none_handled none last empty) = none_handled none last (λ base. recut_incoming [] base (empty base))
+      recut_reassembles got (some_handled base is holds) = some_handled base is (recut_incoming got base holds)
+
+      pub recut : Arrives (watch_of added) first stands.history old.queued old.read old.tracker new old.queues.queue.streams
+      recut =
+          let r = performed.received in
+          record {
+            places = performed.places;
+            were = performed.were;
+            once = performed.once;
+            quiet = performed.quiet;
+            received = record {
+              taken = r.taken;
+              got = r.got;
+              later = r.later;
+              tracks = r.tracks;
+              got_taken = r.got_taken;
+              later_taken = r.later_taken;
+              apart = r.apart;
+              distinct = r.distinct;
+              holds = recut_reassembles r.got r.holds;
+              defers = r.defers;
+            };
+            silent = performed.silent;
+          }

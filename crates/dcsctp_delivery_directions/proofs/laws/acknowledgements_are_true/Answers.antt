@@ -1,5 +1,0 @@
-use Rattle.dcsctp_delivery_directions.proofs.Reached.{acknowledgements_are_true}
-use Rattle.dcsctp_delivery_directions.proofs.laws.acknowledgements_are_true.Goals as goal
-
-pub returns : goal.returns
-returns c = acknowledgements_are_true

@@ -1,0 +1,160 @@
+-- A reset ends: the messages of the streams that were handed out are numbered from 0 again, and these
+-- streams are in order, as before they were quiet.
+use Rattle.std.proofs.Common.{◌≡◌, ℕ, Bool, true, false, ◌<◌, ◌≤◌, ◌+◌, ◌*◌, ◌^◌, List, [], ◌∷◌, ◌++◌, length, refl, sym, ◌∙◌, ap, arith, subst, inl, inr}
+use Rattle.std.specs.Prelude.{◌⊎◌, if◌then◌else◌, Option, Some}
+use Rattle.dcsctp_spec_lemmas.specs.spec.queues.Runs.{WholeModel}
+use Rattle.dcsctp_spec_lemmas.specs.spec.queues.IncomingStreams.{StreamModel, new_stream}
+use Rattle.dcsctp_spec_lemmas.specs.spec.queues.Incoming.{stream_on}
+use Rattle.dcsctp_spec_lemmas.specs.spec.queues.Reassembly.{ReassemblyState, waiting_of}
+use Rattle.dcsctp_spec_lemmas.specs.types.queues.SendStreams.{Stream}
+use Rattle.dcsctp_spec_lemmas.specs.types.declared.sending.UnderWay.{UnderWay}
+use Rattle.dcsctp_spec_lemmas.specs.spec.queues.Tracker.{TrackerState}
+use Rattle.dcsctp_delivery_directions.specs.sending.Places.{at_place}
+use Rattle.dcsctp_delivery_directions.specs.sending.Log.{Message, Piece, History, IsLogOfPieces, sent_messages}
+use Rattle.dcsctp_delivery_directions.specs.sending.Numbers.{AreOfKind, CountsMessages, IsCurrent, is_handed_out, stream_named}
+use Rattle.dcsctp_delivery_directions.specs.sending.Queueing.{floors_raised}
+use Rattle.dcsctp_delivery_directions.specs.receiving.Clear.{IsClear, IsOver, Unsent}
+use Rattle.dcsctp_delivery_directions.specs.receiving.Ready.{WaitQueued, HoldsIncoming}
+use Rattle.dcsctp_delivery_directions.proofs.receiving.Raising.{KeptOr, kept_or_clear, holds_keeps, defers_keeps}
+use Rattle.dcsctp_delivery_directions.specs.order.Order.{IsSentAs, AreReadAs}
+use Rattle.dcsctp_delivery_directions.specs.order.Reading.{CountsFromZero, OrderedStream, Watch}
+use Rattle.dcsctp_delivery_directions.specs.order.Incoming.{IsOrderedOrReset, IncomingOrdered}
+use Rattle.dcsctp_delivery_directions.specs.order.Received.{none_quiet, ReassemblesInOrder, none_handled, some_handled, HasReceivedInOrder}
+use Rattle.dcsctp_delivery_directions.proofs.order.Incoming.{quiet_where, separated_where}
+use Rattle.dcsctp_delivery_directions.proofs.order.Order.{resets_stay}
+use Rattle.dcsctp_delivery_directions.proofs.order.Received.{loud_by}
+use Rattle.dcsctp_delivery_directions.proofs.order.Unsent.{unsent_ordered}
+
+-- ---- a stream whose floor is raised
+
+-- Nothing that was sent on it is current then.
+pub none_current_now : (history : History) (streams : List Stream) (under_way : Option UnderWay) → CountsMessages history streams under_way → (id : ℕ) → is_handed_out (stream_named id streams).pause ≡ true → (n : ℕ) (f : Piece)
+    → at_place n history.log ≡ Some (Some f) → f.message.stream ≡ id → IsCurrent (floors_raised streams history) f → ⊥
+none_current_now history streams under_way counts id handed n f at on is =
+    let below = counts.below n f at in
+    let few = counts.few f.message.stream f.message.is_unordered in
+    let high : 2 ^ 32 * (history.floors f.message.stream f.message.is_unordered + length history.log + 1) ≤ f.mid =
+    subst (λ (b : Bool). (if b then 2 ^ 32 * (history.floors f.message.stream f.message.is_unordered + length history.log + 1) else history.floors f.message.stream f.message.is_unordered) ≤ f.mid)
+    (ap (λ (k : ℕ). is_handed_out (stream_named k streams).pause) on ∙ handed) is in
+    omega (arith, below, few, high)
+
+-- ---- a stream whose floor stays
+
+module _ (queued : List Message) (history : History) (floors : ℕ → Bool → ℕ) (id : ℕ) (same_each : (b : Bool) → floors id b ≡ history.floors id b) where
+  same : floors id false ≡ history.floors id false
+  same = same_each false
+
+  abbrev now : History
+  now = record history { floors = floors }
+
+  sent_now : (place mid : ℕ) → IsSentAs history id place mid → IsSentAs now id place mid
+  sent_now place mid sent = record { offset = sent.offset; piece = sent.piece; at = sent.at; is = sent.is; stream = sent.stream; ordered = sent.ordered; under = sent.under }
+
+  read_now : (places : List ℕ) (wholes : List WholeModel) → AreReadAs history id places wholes → AreReadAs now id places wholes
+  read_now [] [] are = tt
+  read_now [] (w ∷ wholes) are = absurd are
+  read_now (p ∷ places) [] are = absurd are
+  read_now (p ∷ places) (w ∷ wholes) are = (record { mid = are.0.mid; sent = sent_now p are.0.mid are.0.sent; counted = (let counted = are.0.counted in omega (arith, counted, same)) }, read_now places wholes are.1)
+
+  ordered_now : (watch : Watch) (all waits : List ℕ) (stream : StreamModel) → OrderedStream watch queued history id all waits stream → OrderedStream watch queued now id all waits stream
+  ordered_now watch all waits stream o =
+      record {
+        order = record {
+          in_order = o.order.in_order;
+          below = λ place has on. (let is = o.order.below place has on in record { mid = is.mid; sent = sent_now place is.mid is.sent; below = (let below = is.below in omega (arith, below, same)) });
+          waiting = read_now waits stream.waiting o.order.waiting;
+          ahead = o.order.ahead;
+        };
+        reach = o.reach;
+        filled = λ is number low less. (
+            let has = o.filled is number low less in
+            record {
+              place = has.place;
+              has = has.has;
+              is = record { mid = has.is.mid; sent = sent_now has.place has.is.mid has.is.sent; counted = (let counted = has.is.counted in omega (arith, counted, same)) };
+            }
+            );
+        separated = o.separated;
+        since = λ cut has n f at on high. o.since cut has n f at on (subst (λ (k : ℕ). k ≤ f.mid) (ap (λ (k : ℕ). floors k f.message.is_unordered) on ∙ same_each f.message.is_unordered ∙ ap (λ (k : ℕ). history.floors k f.message.is_unordered) (sym on)) high);
+      }
+
+-- ---- all streams
+
+module _ (watch : ℕ → Watch) (queued : List Message) (history : History) (streams : List Stream) (cut : IsLogOfPieces queued history.log) (kinds : AreOfKind true history.log) (counts : (id : ℕ) → CountsFromZero history id) (quiet : ℕ → Bool)
+    (silent : (id : ℕ) → quiet id ≡ true → is_handed_out (stream_named id streams).pause ≡ true) (first cumulative : ℕ) (reassembly : ReassemblyState)
+    (out : (id : ℕ) → is_handed_out (stream_named id streams).pause ≡ true → Unsent history.log id ⊎ (IsOver history first cumulative id × IsClear id reassembly))
+    (none_current : (id : ℕ) → is_handed_out (stream_named id streams).pause ≡ true → (n : ℕ) (f : Piece) → at_place n history.log ≡ Some (Some f) → f.message.stream ≡ id → IsCurrent (floors_raised streams history) f → ⊥) where
+  abbrev raised : History
+  raised = floors_raised streams history
+
+  kept : KeptOr queued history streams (λ id. IsOver history first cumulative id × IsClear id reassembly)
+  kept = kept_or_clear queued history streams first cumulative reassembly out
+
+  kept_new : KeptOr queued history streams (λ id. stream_on id reassembly.incoming.streams ≡ new_stream id)
+  kept_new id = elim (kept id) [ inl keep ↦ inl keep | inr c ↦ inr c.1.stream ]
+
+  holds_raised : (got : List ℕ) (base : ℕ) (read : List ℕ) → HoldsIncoming queued history got base read reassembly.incoming → HoldsIncoming queued raised got base read reassembly.incoming
+  holds_raised got base read holds = holds_keeps queued history streams got base read reassembly.incoming kept_new holds
+
+  no_waits : (got : List ℕ) (id : ℕ) (waits : List ℕ) → WaitQueued queued history got id waits [] → waits ≡ []
+  no_waits got id [] wait = refl
+  no_waits got id (p ∷ waits) wait = absurd wait
+
+  above : (id : ℕ) → is_handed_out (stream_named id streams).pause ≡ true → (n : ℕ) (f : Piece) → at_place n history.log ≡ Some (Some f) → f.message.stream ≡ id → f.message.is_unordered ≡ false → f.mid < raised.floors id false
+  above id handed n f at on ordered =
+      let few = (counts id).few n f at on ordered in
+      subst (λ (b : Bool). f.mid < (if b then 2 ^ 32 * (history.floors id false + length history.log + 1) else history.floors id false)) (sym handed) (omega (arith, few))
+
+  ordered_raised : (got : List ℕ) (base : ℕ) (read : List ℕ) → IncomingOrdered watch (sent_messages queued history) quiet got base read reassembly.incoming → IncomingOrdered watch (sent_messages queued raised) none_quiet got base read reassembly.incoming
+  unfolding holds_raised holds_keeps
+  ordered_raised got base read o =
+      record {
+        holds = holds_raised got base read o.holds;
+        order = λ id anew. by_pause id (is_handed_out (stream_named id streams).pause) refl;
+      }
+    where
+      renewed : (id : ℕ) → is_handed_out (stream_named id streams).pause ≡ true → IsClear id reassembly → OrderedStream (watch id) queued raised id (read ++ o.holds.places) (o.holds.waits id) (stream_on id reassembly.incoming.streams)
+      renewed id handed clear =
+          let none : o.holds.waits id ≡ [] = no_waits got id (o.holds.waits id) (subst (λ (s : StreamModel). WaitQueued queued history got id (o.holds.waits id) s.waiting) clear.stream (o.holds.streams_hold id).wait) in
+          let between = quiet_where (watch id) queued history (quiet id) id (read ++ o.holds.places) (o.holds.waits id) (stream_on id reassembly.incoming.streams) (o.order id (counts id)) in
+          subst (λ (l : List ℕ). OrderedStream (watch id) queued raised id (read ++ o.holds.places) l (stream_on id reassembly.incoming.streams)) (sym none)
+          (subst (λ (s : StreamModel). OrderedStream (watch id) queued raised id (read ++ o.holds.places) [] s) (sym clear.stream)
+          (record {
+            order = resets_stay queued history id (read ++ o.holds.places) raised.floors (above id handed) between;
+            reach = record { from = omega arith; up_to = omega arith };
+            filled = λ is number low less. absurd (omega (arith, low, less));
+            separated = separated_where (watch id) queued history (quiet id) id (read ++ o.holds.places) (o.holds.waits id) (stream_on id reassembly.incoming.streams) (o.order id (counts id));
+            since = λ cut has n f at on current. absurd (none_current id handed n f at on current);
+          }))
+
+      by_pause : (id : ℕ) (b : Bool) → is_handed_out (stream_named id streams).pause ≡ b → OrderedStream (watch id) queued raised id (read ++ o.holds.places) (o.holds.waits id) (stream_on id reassembly.incoming.streams)
+      by_pause id true handed = elim (out id handed) [
+        | inl none ↦ unsent_ordered queued raised id cut kinds none (watch id) got base read reassembly.incoming (holds_raised got base read o.holds)
+            (separated_where (watch id) queued history (quiet id) id (read ++ o.holds.places) (o.holds.waits id) (stream_on id reassembly.incoming.streams) (o.order id (counts id)))
+        | inr c ↦ renewed id handed c.1
+      ]
+      by_pause id false shut =
+          let loud : quiet id ≡ false = loud_by quiet id (λ is. (let clash : true ≡ false = sym (silent id is) ∙ shut in cc)) in
+          let same_each : ((b : Bool) → raised.floors id b ≡ history.floors id b) =
+          λ b. subst (λ (c : Bool). (if c then 2 ^ 32 * (history.floors id b + length history.log + 1) else history.floors id b) ≡ history.floors id b) (sym shut) refl in
+          ordered_now queued history raised.floors id same_each (watch id) (read ++ o.holds.places) (o.holds.waits id) (stream_on id reassembly.incoming.streams)
+          (subst (λ (b : Bool). IsOrderedOrReset (watch id) b (sent_messages queued history) id (read ++ o.holds.places) (o.holds.waits id) (stream_on id reassembly.incoming.streams)) loud (o.order id (counts id)))
+
+  pub raised_in_order : (read : List ℕ) (tracker : TrackerState) → HasReceivedInOrder watch (sent_messages queued history) quiet first read tracker reassembly → HasReceivedInOrder watch (sent_messages queued raised) none_quiet first read tracker reassembly
+  raised_in_order read tracker r =
+      record {
+        taken = r.taken;
+        got = r.got;
+        later = r.later;
+        tracks = r.tracks;
+        got_taken = r.got_taken;
+        later_taken = r.later_taken;
+        apart = r.apart;
+        distinct = r.distinct;
+        holds = go r.holds;
+        defers = defers_keeps queued history streams first r.later (waiting_of reassembly.deferral) (λ id. elim (kept id) [ inl keep ↦ inl keep | inr c ↦ inr c.1.none ]) r.defers;
+      }
+    where
+      go : ReassemblesInOrder watch (sent_messages queued history) quiet first r.got read reassembly.incoming → ReassemblesInOrder watch (sent_messages queued raised) none_quiet first r.got read reassembly.incoming
+      go (none_handled none last empty) = none_handled none last (λ base. ordered_raised [] base read (empty base))
+      go (some_handled base is holds) = some_handled base is (ordered_raised r.got base read holds)

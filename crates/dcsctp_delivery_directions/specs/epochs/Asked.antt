@@ -1,0 +1,29 @@
+-- Each reset of a stream that a receiver has performed was asked for by its peer's user (RFC 6525, sections 5.1.2 and
+-- 5.2.2), and separates what was queued before from what was queued since.
+use Rattle.std.specs.Prelude.{◌≡◌, ◌<◌, ◌^◌, ℕ, Bool, true, List, length}
+use Rattle.dcsctp_spec.specs.types.declared.options.Options.{Options}
+use Rattle.dcsctp_spec.specs.types.queues.Messages.{MessageContent}
+use Rattle.dcsctp_spec.specs.queues.Reassembly.{names_stream}
+use Rattle.dcsctp_delivery_directions.specs.sending.Places.{HasEntry}
+use Rattle.dcsctp_delivery_directions.specs.sending.Log.{Message}
+use Rattle.dcsctp_delivery_directions.specs.directions.Directions.{PerformedReset, Direction, DirectionRun, assigned_count}
+use Rattle.dcsctp_delivery_directions.specs.order.Queue.{Separates}
+use Rattle.dcsctp_delivery_directions.specs.order.Delivered.{AreDeliveredInOrder}
+
+-- The reset was asked for when so many messages were queued. Of the messages of the stream the first ones, up to this index, were
+-- queued before, and none of the others.
+pub record IsAskedCut (asks : ℕ → ℕ → Bool) (queued : List Message) (id index : ℕ) (places : List ℕ) : Type 0 where
+  pub place : ℕ
+  pub asked : asks id place ≡ true
+  pub separates : Separates queued id index place places
+
+-- What was read is in order, and it is so of each reset that was performed, on each stream that it names.
+pub record AreCutAsAsked (asks : ℕ → ℕ → Bool) (performed : List PerformedReset) (queued : List Message) (read : List MessageContent) : Type 0 where
+  pub ordered : AreDeliveredInOrder queued read
+  pub cut : (id : ℕ) (reset : PerformedReset) → HasEntry reset performed → names_stream reset.streams id ≡ true → IsAskedCut asks queued id reset.index ordered.delivered.places
+
+-- With interleaving it is so where the sender began with number 0 on each stream, if fewer than 2^31 TSNs were assigned.
+abbrev pub DirectionsCutAsAsked : Type 0
+DirectionsCutAsAsked =
+    (options : Options) (first size : ℕ) (direction : Direction) → DirectionRun options first size direction → first < 2 ^ 32 → assigned_count direction < 2 ^ 31 → length direction.queued < 2 ^ 64
+    → direction.queues.queue.is_interleaved ≡ true → direction.beginning.from_zero ≡ true → AreCutAsAsked direction.beginning.asks direction.performed direction.queued direction.read

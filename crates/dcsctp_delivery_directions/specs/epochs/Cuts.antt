@@ -1,0 +1,46 @@
+-- What a receiver has performed of what its peer's user asked for, and what is read in each epoch of a
+-- stream (RFC 6525, section 5.2.2).
+use Rattle.std.specs.Prelude.{◌≡◌, ◌<◌, ◌+◌, ◌^◌, ℕ, true, Option, None, Some, List, [], ◌∷◌, length, if◌then◌else◌}
+use Rattle.dcsctp_spec.specs.types.declared.options.Options.{Options}
+use Rattle.dcsctp_spec.specs.types.queues.Messages.{MessageContent}
+use Rattle.dcsctp_spec.specs.queues.Reassembly.{names_stream}
+use Rattle.dcsctp_delivery_directions.specs.sending.Places.{HasEntry}
+use Rattle.dcsctp_delivery_directions.specs.sending.Log.{Message}
+use Rattle.dcsctp_delivery_directions.specs.directions.Directions.{Direction, DirectionStep, performs, performs_earlier, DirectionRun, begins, goes_on, starts, assigned_count}
+use Rattle.dcsctp_delivery_directions.specs.order.Queue.{Cut, Separates}
+use Rattle.dcsctp_delivery_directions.specs.order.Delivered.{AreDeliveredInOrder}
+use Rattle.dcsctp_delivery_directions.specs.epochs.Sending.{EpochBounds}
+use Rattle.dcsctp_delivery_directions.specs.epochs.Directions.{asked_of}
+
+-- with a reset that was performed, if it is known how many messages were queued when it was asked for
+abbrev pub cut_added : ℕ → Option ℕ → List Cut → List Cut
+cut_added index None cuts = cuts
+cut_added index (Some place) cuts = record { index = index; place = place } ∷ cuts
+
+-- once these streams were reset: a request names them by fields of 16 bits, and an empty list names all
+abbrev pub cuts_with : List ℕ → ℕ → (ℕ → EpochBounds) → (ℕ → List Cut) → ℕ → List Cut
+cuts_with streams index asked cuts id = if names_stream streams id then cut_added index (asked id).newest (cuts id) else cuts id
+
+-- the resets of each stream that were performed, newest first, once this step was done
+abbrev pub cuts_after : (old direction : Direction) → DirectionStep old direction → (ℕ → EpochBounds) → (ℕ → List Cut) → ℕ → List Cut
+cuts_after old _ (performs newest earlier new asks unknown reached own leaves) asked cuts = cuts_with newest.reset.streams (length old.read + length new.incoming.ready) asked cuts
+cuts_after old _ (performs_earlier newest earlier new asks unknown reached own leaves) asked cuts = cuts_with newest.reset.streams (length old.read + length new.incoming.ready) asked cuts
+cuts_after old _ step asked cuts = cuts
+
+-- and in a run
+abbrev pub cuts_of : (options : Options) (first size : ℕ) (direction : Direction) → DirectionRun options first size direction → ℕ → List Cut
+cuts_of options first size _ (begins direction begun) = λ id. []
+cuts_of options first size _ (goes_on old direction run step) = cuts_after old direction step (asked_of options first size old run) (cuts_of options first size old run)
+cuts_of options first size _ (starts old queued sender_queues beginning run awaited fit waits none begun) = λ id. []
+
+-- What was read is in order, and each reset of a stream that was performed separates what was queued before it was asked for from
+-- what was queued since.
+pub record AreDeliveredByEpoch (cuts : ℕ → List Cut) (queued : List Message) (read : List MessageContent) : Type 0 where
+  pub ordered : AreDeliveredInOrder queued read
+  pub epochs : (id : ℕ) (cut : Cut) → HasEntry cut (cuts id) → Separates queued id cut.index cut.place ordered.delivered.places
+
+-- With interleaving it is so where the sender began with number 0 on each stream, if fewer than 2^31 TSNs were assigned.
+abbrev pub DirectionsDeliverByEpoch : Type 0
+DirectionsDeliverByEpoch =
+    (options : Options) (first size : ℕ) (direction : Direction) (run : DirectionRun options first size direction) → first < 2 ^ 32 → assigned_count direction < 2 ^ 31 → length direction.queued < 2 ^ 64
+    → direction.queues.queue.is_interleaved ≡ true → direction.beginning.from_zero ≡ true → AreDeliveredByEpoch (cuts_of options first size direction run) direction.queued direction.read

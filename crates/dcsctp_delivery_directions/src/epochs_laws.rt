@@ -1,0 +1,28 @@
+//! Epochs of a stream, from one reset that its user asks for to the next (RFC 6525): over every schedule, what is sent
+//! and what is read in each, where messages interleave. Each law is the contract of an empty function.
+
+ghost use Rattle.dcsctp_delivery_directions.specs.epochs.Asked.{DirectionsCutAsAsked};
+ghost use Rattle.dcsctp_delivery_directions.specs.epochs.Cuts.{DirectionsDeliverByEpoch};
+ghost use Rattle.dcsctp_delivery_directions.specs.epochs.Directions.{DirectionsSendByEpoch};
+
+/// With interleaving what was queued on a stream before its user asked for a reset is sent before the reset, or never,
+/// and what was queued since is sent after it (RFC 6525, section 5.1.2). Of a stream that was open where the
+/// association began it is known at each time for how many messages that is.
+pub fn directions_send_by_epoch()
+    ensures { DirectionsSendByEpoch }
+{}
+
+/// With interleaving each reset of a stream that the receiver performs separates the messages of the stream, ordered or
+/// not: those that were read or are ready then were queued before the reset was asked for, and those that come later since
+/// (RFC 6525, section 5.2.2). A request that is sent again under another number, and performed twice, separates them
+/// twice at the same message.
+pub fn directions_deliver_by_epoch()
+    ensures { DirectionsDeliverByEpoch }
+{}
+
+/// With interleaving each reset of a stream that the receiver performs was asked for by the sender's user (RFC 6525,
+/// section 5.1.2): of the messages of the stream, ordered or not, those that were read or are ready then were queued
+/// before that, and those that come later since.
+pub fn directions_cut_as_asked()
+    ensures { DirectionsCutAsAsked }
+{}

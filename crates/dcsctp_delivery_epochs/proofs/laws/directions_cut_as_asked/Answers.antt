@@ -1,5 +1,0 @@
-use Rattle.dcsctp_delivery_epochs.proofs.CutsAsked.{directions_cut_as_asked}
-use Rattle.dcsctp_delivery_epochs.proofs.laws.directions_cut_as_asked.Goals as goal
-
-pub returns : goal.returns
-returns c = directions_cut_as_asked

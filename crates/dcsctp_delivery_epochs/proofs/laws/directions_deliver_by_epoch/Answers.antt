@@ -1,5 +1,0 @@
-use Rattle.dcsctp_delivery_epochs.proofs.DeliveringRuns.{directions_deliver_by_epoch}
-use Rattle.dcsctp_delivery_epochs.proofs.laws.directions_deliver_by_epoch.Goals as goal
-
-pub returns : goal.returns
-returns c = directions_deliver_by_epoch

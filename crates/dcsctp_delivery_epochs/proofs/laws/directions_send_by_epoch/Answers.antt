@@ -1,5 +1,0 @@
-use Rattle.dcsctp_delivery_epochs.proofs.SendingRuns.{directions_send_by_epoch}
-use Rattle.dcsctp_delivery_epochs.proofs.laws.directions_send_by_epoch.Goals as goal
-
-pub returns : goal.returns
-returns c = directions_send_by_epoch

@@ -1,5 +1,0 @@
-use Rattle.dcsctp_delivery_sending.proofs.Pieces.{hands_out}
-use Rattle.dcsctp_delivery_sending.proofs.laws.pieces_follow.Goals as goal
-
-pub returns : goal.returns
-returns c = λ queued log now max old new told_before told_after part. hands_out queued log now max old new told_before told_after part

@@ -1,0 +1,131 @@
+-- Each reset that a user is told of splits what it reads, where the other user asked for it.
+use Rattle.std.proofs.Common.{◌≡◌, ℕ, zero, suc, true, ◌<◌, ◌+◌, ◌^◌, List, [], ◌∷◌, ◌++◌, length, sym, ◌∙◌, ap, subst, inl, inr}
+use Rattle.dcsctp_spec_lemmas.specs.types.declared.options.Options.{Options}
+use Rattle.dcsctp_spec_lemmas.specs.types.queues.Messages.{MessageContent}
+use Rattle.dcsctp_spec_lemmas.specs.spec.endpoint.CallTurns.{Transition}
+use Rattle.dcsctp_spec_lemmas.specs.spec.endpoint.Endpoint.{fresh_endpoint}
+use Rattle.dcsctp_spec_lemmas.specs.spec.endpoint.MessageOutcomes.{Sending}
+use Rattle.dcsctp_spec_runs.specs.Sockets.{endpoint_after}
+use Rattle.dcsctp_theorem_sockets.specs.Agreement.{recorded_past}
+use Rattle.dcsctp_delivery_directions.specs.sending.Log.{Message}
+use Rattle.dcsctp_delivery_directions.specs.sending.Places.{HasEntry}
+use Rattle.dcsctp_delivery_directions.specs.sending.ChunkCounts.{chunks_to}
+use Rattle.dcsctp_delivery_directions.specs.order.Queue.{Separates}
+use Rattle.dcsctp_delivery_directions.specs.epochs.Asked.{AreCutAsAsked}
+use Rattle.dcsctp_delivery_sockets.specs.associations.Ends.{ResetCalls, HadBoth, chunks_before, NumbersFromZero}
+use Rattle.dcsctp_delivery_sockets.specs.associations.InOrder.{Interleaves}
+use Rattle.dcsctp_delivery_sockets.specs.associations.Reads.{ReadMessage, ReportedReset, Reading, nothing_read, tagged_after, reached_index, with_tag, with_key}
+use Rattle.dcsctp_delivery_sockets.proofs.associations.InOrder.{ends_cut_as_asked}
+use Rattle.dcsctp_delivery_sockets.proofs.associations.Tagged.{PeersDiffer, ReadUnder, nothing_under, under_key, read_under_key, read_among, crossed_reset, one_key}
+use Rattle.dcsctp_delivery_sockets.specs.sockets.Epochs.{HasReset, ReportsPeerReset, ready_count, AreSplit, IsDeliveredByEpoch}
+use Rattle.dcsctp_delivery_sockets.specs.sockets.Ordered.{StartsAtZero, read_under}
+use Rattle.dcsctp_delivery_sockets.specs.sockets.Packets.{reading_through}
+use Rattle.dcsctp_delivery_sockets.proofs.sockets.Stands.{Stand, queued_of, packets_of, reading_of, reading_more}
+use Rattle.dcsctp_delivery_sockets.proofs.sockets.ToldResets.{told_report, reads_more}
+use Rattle.dcsctp_delivery_sockets.proofs.sockets.UserMessages.{SaysSame, message_on, is_in_order}
+
+-- What separates what was queued splits what was sent.
+split_of : (queued : List Message) (sent : List Sending) (same : SaysSame (λ sending. sending) queued sent) (stream index count : ℕ) (places : List ℕ) → Separates queued stream index count places → AreSplit sent stream index count places
+split_of queued sent same stream index count [] apart = tt
+split_of queued sent same stream zero count (place ∷ places) apart = ((λ on. apart.0 (message_on queued sent same stream place on)), split_of queued sent same stream zero count places apart.1)
+split_of queued sent same stream (suc index) count (place ∷ places) apart = ((λ on. apart.0 (message_on queued sent same stream place on)), split_of queued sent same stream index count places apart.1)
+
+module _ (reset_calls : ResetCalls) (mine theirs : Options) (turns others : List Transition) (h : Stand reset_calls mine theirs turns others) (few : length (queued_of mine turns) < 2 ^ 64)
+    (went : (tag : ℕ) → chunks_before (h.ends.former tag) (packets_of turns) + chunks_to (h.ends.latest tag) (packets_of turns) < 2 ^ 30)
+    (mine_differ : PeersDiffer (recorded_past turns)) (theirs_differ : PeersDiffer (recorded_past others)) where
+  -- A reset that was reported was performed under this tag of the sender.
+  record IsPerformed (tag : ℕ) (streams : List ℕ) (index : ℕ) : Type 0 where
+    key : ℕ
+    both : HadBoth (recorded_past turns) key tag
+    performed : HasEntry (record { streams = streams; index = index }) (h.ends.gets key).performed
+
+  module _ (tag : ℕ) (streams : List ℕ) (index : ℕ) (r : ReportsPeerReset theirs others tag streams index) where
+    abbrev reading : Reading
+    reading = reading_through (fresh_endpoint theirs) r.earlier nothing_read
+
+    abbrev report : ReportedReset
+    report = record { tags = reading.last; reset = record { streams = streams; index = reached_index (endpoint_after theirs r.earlier) r.turn.input r.turn.outcome reading } }
+
+    reported : HasEntry report (reading_of theirs others).resets
+    reported =
+        subst (λ (ts : List Transition). HasEntry report (reading_through (fresh_endpoint theirs) ts nothing_read).resets) (sym r.is)
+        (told_report streams (fresh_endpoint theirs) r.earlier r.turn r.later nothing_read r.told)
+
+    -- what was read once the turn was taken
+    abbrev reads_then : List ReadMessage
+    reads_then = tagged_after reading.last (endpoint_after theirs r.earlier) r.turn.input reading.reads
+
+    reads_are : (reading_through (fresh_endpoint theirs) (r.earlier ++ r.turn ∷ []) nothing_read).reads ≡ reads_then
+    reads_are = ap (λ (x : Reading). x.reads) (reading_more (fresh_endpoint theirs) r.earlier (r.turn ∷ []) nothing_read)
+
+    reads_within : (m : ReadMessage) → HasEntry m reads_then → HasEntry m (reading_of theirs others).reads
+    reads_within m has =
+        subst (λ (ts : List Transition). HasEntry m (reading_through (fresh_endpoint theirs) ts nothing_read).reads) (sym r.is)
+        (subst (λ (x : Reading). HasEntry m x.reads) (sym (reading_more (fresh_endpoint theirs) r.earlier (r.turn ∷ r.later) nothing_read))
+        (reads_more m r.turn.outcome.after r.later _ has))
+
+    told_performed : IsPerformed tag streams index
+    told_performed =
+        let c = crossed_reset theirs h.ends (endpoint_after mine turns) (queued_of mine turns) (recorded_past turns) (packets_of turns) (endpoint_after theirs others) (recorded_past others) (reading_of theirs others) h.between mine_differ theirs_differ report reported in
+        let both : HadBoth (recorded_past turns) reading.last.peer tag = subst (HadBoth (recorded_past turns) reading.last.peer) r.tag_is c.both in
+        let same : with_tag tag reads_then ≡ with_key reading.last.peer reads_then =
+        read_among theirs h.ends (endpoint_after mine turns) (queued_of mine turns) (recorded_past turns) (packets_of turns) (endpoint_after theirs others) (recorded_past others) (reading_of theirs others) h.between mine_differ theirs_differ
+        reads_then reads_within reading.last.peer tag both c.link c.held c.peer_is (c.own_is ∙ r.tag_is) in
+        let index_same : reached_index (endpoint_after theirs r.earlier) r.turn.input r.turn.outcome reading ≡ index =
+        ap (λ (l : List MessageContent). length l + ready_count r.turn.outcome.after) (sym same)
+        ∙ ap (λ (l : List ReadMessage). length (with_tag tag l) + ready_count r.turn.outcome.after) (sym reads_are) ∙ sym r.index_is in
+        record {
+          key = reading.last.peer;
+          both = both;
+          performed = subst (λ (n : ℕ). HasEntry (record { streams = streams; index = n }) (h.ends.gets reading.last.peer).performed) index_same c.performed;
+        }
+
+  module _ (sent : List Sending) (same : SaysSame (λ sending. sending) (queued_of mine turns) sent) (asked : (stream count : ℕ) → reset_calls.asks stream count ≡ true → HasReset mine turns stream count)
+      (rules : (endpoint_after mine turns).options.follow_rfc ≡ mine.follow_rfc) (tag : ℕ) (starts : StartsAtZero mine turns) (interleaves : Interleaves (recorded_past turns) tag) where
+    abbrev Delivered : List MessageContent → Type 0
+    Delivered read = IsDeliveredByEpoch (HasReset mine turns) (ReportsPeerReset theirs others tag) sent read
+
+    -- what is performed under a tag of the sender
+    cuts : (key : ℕ) → HadBoth (recorded_past turns) key tag → AreCutAsAsked reset_calls.asks (h.ends.gets key).performed (queued_of mine turns) (with_key key (reading_of theirs others).reads)
+    cuts key both =
+        subst (λ (calls : ResetCalls). AreCutAsAsked calls.asks (h.ends.gets key).performed (queued_of mine turns) (with_key key (reading_of theirs others).reads)) h.is
+        (ends_cut_as_asked theirs h.ends (endpoint_after mine turns) (queued_of mine turns) (recorded_past turns) (packets_of turns) (endpoint_after theirs others) (recorded_past others) (reading_of theirs others) h.between
+        few went key anew (both.link, both.held, both.tag_is, interleaves both.link both.held both.peer_is))
+      where
+        anew : NumbersFromZero (endpoint_after mine turns) (recorded_past turns) key
+        anew = elim starts [ inl follows ↦ inl (rules ∙ follows) | inr one ↦ inr (λ link has. one link both.link has both.held ∙ both.tag_is) ]
+
+    none_delivered : Delivered []
+    none_delivered =
+        record {
+          delivered = record { places = []; were_sent = tt; once = tt; in_order = λ stream. tt };
+          epochs = λ streams index told stream names. (
+              let p = told_performed tag streams index told in
+              let c = (cuts p.key p.both).cut stream (record { streams = streams; index = index }) p.performed names in
+              record { count = c.place; ask = asked stream c.place c.asked; split = tt }
+              );
+        }
+
+    key_delivered : (key : ℕ) → HadBoth (recorded_past turns) key tag → Delivered (with_key key (reading_of theirs others).reads)
+    key_delivered key both =
+        let d = cuts key both in
+        record {
+          delivered = is_in_order (queued_of mine turns) sent (with_key key (reading_of theirs others).reads) same d.ordered;
+          epochs = λ streams index told stream names. (
+              let p = told_performed tag streams index told in
+              let one : p.key ≡ key =
+              one_key theirs h.ends (endpoint_after mine turns) (queued_of mine turns) (recorded_past turns) (packets_of turns) (endpoint_after theirs others) (recorded_past others) (reading_of theirs others) h.between mine_differ theirs_differ
+              p.key key tag p.both both in
+              let c = d.cut stream (record { streams = streams; index = index }) (subst (λ (k : ℕ). HasEntry (record { streams = streams; index = index }) (h.ends.gets k).performed) one p.performed) names in
+              record { count = c.place; ask = asked stream c.place c.asked; split = split_of (queued_of mine turns) sent same stream index c.place d.ordered.delivered.places c.separates }
+              );
+        }
+
+    pub is_by_epoch : Delivered (read_under tag theirs others)
+    is_by_epoch =
+        go
+        (read_under_key theirs h.ends (endpoint_after mine turns) (queued_of mine turns) (recorded_past turns) (packets_of turns) (endpoint_after theirs others) (recorded_past others) (reading_of theirs others) h.between mine_differ theirs_differ tag)
+      where
+        go : ReadUnder (recorded_past turns) (recorded_past others) (reading_of theirs others) tag → Delivered (read_under tag theirs others)
+        go (nothing_under none) = subst Delivered (sym none) none_delivered
+        go (under_key key read both their_link held own) = subst Delivered (sym read) (key_delivered key both)

@@ -1,0 +1,29 @@
+-- The laws of turns, as what they do to runs of two directions.
+use Rattle.dcsctp_delivery_directions.specs.directions.Directions as directions
+use Rattle.std.proofs.Common.{true, false, None, [], sym, subst}
+use Rattle.dcsctp_spec_lemmas.specs.spec.queues.SendQueue.{empty_queue}
+use Rattle.dcsctp_delivery_sockets.specs.turns.Runs.{SendersGoOn, SendersBegin, SendersBeginAgain, ReceiversGoOn, ReceiversBegin}
+use Rattle.dcsctp_delivery_sockets.proofs.turns.Turns.{turns_are_actions}
+use Rattle.dcsctp_delivery_sockets.proofs.turns.Beginnings.{fresh_waits, anew_runs, fresh_at_zero}
+use Rattle.dcsctp_delivery_sockets.proofs.turns.SenderRuns.{sender_becomes}
+use Rattle.dcsctp_delivery_sockets.proofs.turns.ReceiverRuns.{idle_becomes, receiver_becomes}
+
+pub senders_begin : SendersBegin
+senders_begin mine options first size keeps asks =
+    anew_runs options first size [] (record { queue = empty_queue mine; transfer = None }) (record { from_zero = true; keeps = keeps; asks = asks }) tt (fresh_waits mine) tt
+    (record { zero = λ is. fresh_at_zero mine; all = λ id is. record { waits = λ place message at. absurd (cc); unpaused = tt } })
+
+pub begins_anew : SendersBeginAgain
+begins_anew options first size asks queued below fit queues none =
+    anew_runs options first size queued below (record { from_zero = false; keeps = λ id. false; asks = asks }) fit queues (subst (directions.NoneInFlight first below.queue.is_interleaved) (sym none) tt) (record { zero = λ is. absurd (cc); all = λ id is. absurd (cc) })
+
+pub senders_go_on : SendersGoOn
+senders_go_on options first size direction e input o run small same fits performed refuses drops opens told few may turn =
+    sender_becomes options first size direction e input o run small same fits performed refuses drops opens told few (turns_are_actions e input o may turn)
+
+pub receivers_go_on : ReceiversGoOn
+receivers_go_on is_known options first size direction transfer e input o run known was newest fits small may turn =
+    receiver_becomes is_known options first size direction transfer e input o run known was newest fits small (turns_are_actions e input o may turn)
+
+pub receivers_begin : ReceiversBegin
+receivers_begin e input o nowhere fits small may turn = idle_becomes e input o small nowhere fits (turns_are_actions e input o may turn)

@@ -1,0 +1,10 @@
+pub mod Echoes
+pub mod Packets
+pub mod Acts
+pub mod UserMessages
+pub mod Ordered
+pub mod Epochs
+pub mod Delivery
+pub mod Retransmitting
+pub mod Shown
+pub mod ShownDelivery

@@ -1,0 +1,71 @@
+-- What a user reads of a stream before and after each reset of it (RFC 6525, sections 5.1.2 and 5.2.2), by
+-- what two users see: the messages and the calls of `reset_streams` of the one, and what the other reads and
+-- is told of.
+use Rattle.std.specs.Prelude.{◌≡◌, ◌+◌, ◌<◌, ◌≤◌, ℕ, zero, suc, true, None, List, [], ◌∷◌, ◌++◌, length}
+use Rattle.dcsctp_spec_lemmas.specs.types.declared.options.Options.{Options}
+use Rattle.dcsctp_spec_lemmas.specs.spec.endpoint.CallTurns.{Transition}
+use Rattle.dcsctp_spec_lemmas.specs.spec.endpoint.DataOutcomes.{ready_or_left}
+use Rattle.dcsctp_spec_lemmas.specs.spec.endpoint.Endpoint.{Endpoint, fresh_endpoint}
+use Rattle.dcsctp_spec_lemmas.specs.spec.endpoint.Event.{incoming_stream_reset}
+use Rattle.dcsctp_spec_lemmas.specs.spec.endpoint.MessageOutcomes.{Sending}
+use Rattle.dcsctp_spec_lemmas.specs.spec.endpoint.PreparedResets.{reset_refusal}
+use Rattle.dcsctp_spec_lemmas.specs.spec.queues.Reassembly.{names_stream}
+use Rattle.dcsctp_spec_lemmas.specs.types.queues.Messages.{MessageContent}
+use Rattle.dcsctp_spec_runs.specs.Sockets.{endpoint_after}
+use Rattle.dcsctp_delivery_directions.specs.sending.Places.{HasEntry}
+use Rattle.dcsctp_delivery_sockets.specs.turns.Actions.{resets_stream}
+use Rattle.dcsctp_delivery_sockets.specs.associations.Reads.{nothing_read}
+use Rattle.dcsctp_delivery_sockets.specs.sockets.Ordered.{IsStreamMessage, IsDeliveredInOrder, read_under}
+use Rattle.dcsctp_delivery_sockets.specs.sockets.Packets.{reading_through}
+use Rattle.dcsctp_delivery_sockets.specs.sockets.UserMessages.{sendings_of_turns}
+
+-- ---- a reset that is asked for
+
+-- In one of these turns the user resets the stream by a call that isn't refused, once it has sent so many messages.
+pub record HasReset (options : Options) (turns : List Transition) (stream sent : ℕ) : Type 0 where
+  pub earlier : List Transition
+  pub ask : Transition
+  pub later : List Transition
+  pub is : turns ≡ earlier ++ ask ∷ later
+  pub resets : resets_stream stream ask.input ≡ true
+  pub accepted : reset_refusal (endpoint_after options earlier) ≡ None
+  pub sent_is : length (sendings_of_turns (fresh_endpoint options) earlier) ≡ sent
+
+-- ---- a reset that is reported
+
+-- how many messages the user can read now, with those that an association left when it ended
+abbrev pub ready_count : Endpoint → ℕ
+ready_count e = length (ready_or_left e.left e.queues.transfer)
+
+-- In one of these turns the user is told that the peer has reset these streams. The association that is there, or was the last, has
+-- this own tag. So many of its messages were read by then, or can be.
+pub record ReportsPeerReset (options : Options) (turns : List Transition) (tag : ℕ) (streams : List ℕ) (index : ℕ) : Type 0 where
+  pub earlier : List Transition
+  pub turn : Transition
+  pub later : List Transition
+  pub is : turns ≡ earlier ++ turn ∷ later
+  pub told : HasEntry (incoming_stream_reset streams) turn.outcome.events
+  pub tag_is : (reading_through (fresh_endpoint options) earlier nothing_read).last.own ≡ tag
+  pub index_is : index ≡ length (read_under tag options (earlier ++ turn ∷ [])) + ready_count turn.outcome.after
+
+-- ---- both
+
+-- Messages were read at these places in the order of sending. Of those of the stream the first ones, up to this index, are among the
+-- first so many that were sent, and none of the others is.
+abbrev pub AreSplit : List Sending → ℕ → ℕ → ℕ → List ℕ → Type 0
+AreSplit sent stream index count [] = Unit {0}
+AreSplit sent stream zero count (place ∷ places) = (IsStreamMessage sent stream place → count ≤ place) × AreSplit sent stream zero count places
+AreSplit sent stream (suc index) count (place ∷ places) = (IsStreamMessage sent stream place → place < count) × AreSplit sent stream index count places
+
+-- They are split so where the reset was asked for.
+pub record AreSplitAsAsked (asked : ℕ → Type 0) (sent : List Sending) (stream index : ℕ) (places : List ℕ) : Type 0 where
+  pub count : ℕ
+  pub ask : asked count
+  pub split : AreSplit sent stream index count places
+
+-- Messages are delivered in order. And each reset that is reported was asked for: of the messages of a stream that it names, ordered
+-- or not, those that were read before it was reported, or could be, were sent before the other user asked for it, and those that
+-- are read later were sent since. A report without streams names all.
+pub record IsDeliveredByEpoch (asked : ℕ → ℕ → Type 0) (told : List ℕ → ℕ → Type 0) (sent : List Sending) (read : List MessageContent) : Type 0 where
+  pub delivered : IsDeliveredInOrder sent read
+  pub epochs : (streams : List ℕ) (index : ℕ) → told streams index → (stream : ℕ) → names_stream streams stream ≡ true → AreSplitAsAsked (asked stream) sent stream index delivered.places

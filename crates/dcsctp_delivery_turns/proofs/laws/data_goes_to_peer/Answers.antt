@@ -1,8 +1,0 @@
-use Rattle.dcsctp_delivery_turns.proofs.Addressed.{data_goes_to_peer, addressed_tags_are_own}
-use Rattle.dcsctp_delivery_turns.proofs.laws.data_goes_to_peer.Goals as goal
-
-pub returns-clause-sent : goal.returns-clause-sent
-returns-clause-sent c = data_goes_to_peer
-
-pub returns-clause-admitted : goal.returns-clause-admitted
-returns-clause-admitted c = addressed_tags_are_own

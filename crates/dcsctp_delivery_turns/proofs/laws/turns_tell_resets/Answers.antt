@@ -1,9 +1,0 @@
-use Rattle.dcsctp_delivery_turns.proofs.ToldRequests.{turns_report_requests}
-use Rattle.dcsctp_delivery_turns.proofs.ToldResets.{turns_tell_resets}
-use Rattle.dcsctp_delivery_turns.proofs.laws.turns_tell_resets.Goals as goal
-
-pub returns-clause-told : goal.returns-clause-told
-returns-clause-told c = turns_tell_resets
-
-pub returns-clause-asked : goal.returns-clause-asked
-returns-clause-asked c = turns_report_requests
