@@ -417,26 +417,27 @@ typedef struct dcsctp_socket {
  * `follow_rfc`: the socket keeps rules of the RFCs that upstream, dcsctp 0.1.16, doesn't. A
  *   shutdown first sends queued messages. Data without room, or that fills a gap, is acknowledged
  *   at once. A full receive window that opens is reported to the peer. A peer's SHUTDOWN
- *   acknowledges data. Streams of equal priority take turns. A repeated request to reset a stream
- *   that is in progress gets the next number, and is reported once, except across a handover; of a
- *   peer without this so are two with nothing sent between them, if the first was in progress.
- *   Messages that are ready can be taken after their association has ended. A timeout that was
- *   doubled stays so until a round trip is measured, and a HEARTBEAT's first answer measures one.
- *   Data that a full window had no room for is sent again once it opens. Errors are counted for
- *   each association. A shutdown also waits until the peer knows what was abandoned. A SACK lists
- *   as many gaps as fit. An ABORT ends an attempt to connect. A late COOKIE ECHO of the last
- *   association begins none. A stale cookie is answered by an ERROR, and such an answer ends an
- *   attempt to connect. A shutdown and resets of streams wait for the end of the handshake. Data,
- *   SACKs and resets that come before the COOKIE ACK are dropped. Where both ends connect, what was
- *   sent before it is sent again, if our tag, our first TSN and what both ends support stay; it is
- *   read twice only if the peer had ended the association in which it was sent. Parts of messages
- *   count 256 bytes more in the receive window. Of a packet's HEARTBEATs, INITs and RE-CONFIG
- *   requests one is answered. A shutdown also waits for a message behind a reset of its stream, if
- *   it has no lifetime. I-DATA while a SHUTDOWN awaits its answer brings another. A closed socket
- *   takes only its own cookies, unless they are forged by one who saw its packets. The heartbeat
- *   interval of a restored association starts at once, not with its next data. At 0, and with
- *   upstream's limits (above), the socket behaves as upstream, but for a few differences:
- *   docs/design/differences.md has a row for each, and for each rule. */
+ *   acknowledges data. Streams of equal priority take turns; with message interleaving none waits
+ *   for the end of another's message. A repeated request to reset a stream that is in progress gets
+ *   the next number, and is reported once, except across a handover; of a peer without this so are
+ *   two with nothing sent between them, if the first was in progress. Messages that are ready can
+ *   be taken after their association has ended. A timeout that was doubled stays so until a round
+ *   trip is measured, and a HEARTBEAT's first answer measures one. Data that a full window had no
+ *   room for is sent again once it opens. Errors are counted for each association. A shutdown also
+ *   waits until the peer knows what was abandoned. A SACK lists as many gaps as fit. An ABORT ends
+ *   an attempt to connect. A late COOKIE ECHO of the last association begins none. A stale cookie
+ *   is answered by an ERROR, and such an answer ends an attempt to connect. A shutdown and resets
+ *   of streams wait for the end of the handshake. Data, SACKs and resets that come before the
+ *   COOKIE ACK are dropped. Where both ends connect, what was sent before it is sent again, if our
+ *   tag, our first TSN and what both ends support stay; it is read twice only if the peer had ended
+ *   the association in which it was sent. Parts of messages count 256 bytes more in the receive
+ *   window. Of a packet's HEARTBEATs, INITs and RE-CONFIG requests one is answered. A shutdown also
+ *   waits for a message behind a reset of its stream, if it has no lifetime. I-DATA while a
+ *   SHUTDOWN awaits its answer brings another. A closed socket takes only its own cookies, unless
+ *   they are forged by one who saw its packets. The heartbeat interval of a restored association
+ *   starts at once, not with its next data. At 0, and with upstream's limits (above), the socket
+ *   behaves as upstream, but for a few differences: docs/design/differences.md has a row for each,
+ *   and for each rule. */
 typedef struct dcsctp_options {
     size_t size;                                         /* sizeof(dcsctp_options) */
     size_t mtu;                                          /* longest packet that is sent: 1,191 */
@@ -835,8 +836,10 @@ int32_t dcsctp_set_buffered_amount_low_threshold(dcsctp_socket *socket, uint16_t
                                                  size_t bytes) DCSCTP_CHECKED_CALL;
 
 /* Writes the priority of a stream. The stream with the greatest priority is sent first. Those with
- * the same priority take turns, a message each; without `follow_rfc` the lowest stream number is
- * sent first as long as it has messages. So give an urgent stream a greater priority.
+ * the same priority take turns, a message each. With message interleaving a turn is a packet's
+ * worth of bytes, and a greater priority doesn't wait for the end of a message, unless that has a
+ * lifetime or a limit on retransmissions. Without `follow_rfc` the lowest stream number is sent
+ * first as long as it has messages. So give an urgent stream a greater priority.
  * Error: NO_SOCKET. */
 int32_t dcsctp_get_stream_priority(const dcsctp_socket *socket, uint16_t stream_id,
                                    uint16_t *priority) DCSCTP_CALL;

@@ -130,8 +130,8 @@ abbrev pub lasting_use : ℕ → Bool → StreamUse
 lasting_use name heard = record (opened_use name) { heard = heard }
 
 -- a stream whose channel is restored at this moment
-abbrev pub held_again : ℕ → HandoverChannel → HeldStream
-held_again moment channel =
+abbrev pub stream_handed_over : ℕ → HandoverChannel → HeldStream
+stream_handed_over moment channel =
     record {
       stream = lasting_use channel.name channel.heard;
       delivery = channel.delivery;
@@ -153,7 +153,7 @@ has_own_place count named channel places =
 abbrev pub places_with_channel : ℕ → HandoverChannel → ChannelPlaces → ChannelPlaces
 places_with_channel moment channel places =
     record {
-      streams = entry_put channel.stream (held_again moment channel) places.streams;
+      streams = entry_put channel.stream (stream_handed_over moment channel) places.streams;
       names = entry_put channel.name channel.stream places.names;
     }
 

@@ -24,7 +24,7 @@ use Rattle.dcsctp_channel_calls.specs.Queries.{channel_state}
 use Rattle.dcsctp_channel_calls.specs.View.{WaitingChannel, LayerView, ChannelsView, entry_numbered, slot_of, stream_count, streams_if_connected, view_with_events}
 use Rattle.dcsctp_channel_calls.specs.declared.handover.ChannelsHandoverState.{ChannelsHandoverState}
 use Rattle.dcsctp_channel_calls.specs.declared.handover.HandoverChannel.{HandoverChannel}
-use Rattle.dcsctp_channel_calls.specs.Handover.{ChannelsPart, ChannelPlaces, no_places, is_empty, is_plain, has_settled, are_settled, has_association, readiness_with_channels, name_or_zero, carried_channel, carried_channels, layer_handed_over, held_again, has_own_place, places_with_channel, places_beside, streams_of_snapshot, is_valid_below, is_unused, places_restored, HandsOverNow}
+use Rattle.dcsctp_channel_calls.specs.Handover.{ChannelsPart, ChannelPlaces, no_places, is_empty, is_plain, has_settled, are_settled, has_association, readiness_with_channels, name_or_zero, carried_channel, carried_channels, layer_handed_over, stream_handed_over, has_own_place, places_with_channel, places_beside, streams_of_snapshot, is_valid_below, is_unused, places_restored, HandsOverNow}
 use Rattle.dcsctp_channel_laws.specs.Handovers.{HandedOverAreGone, GoesOn, HandedOverGoOn}
 use Rattle.dcsctp_channel_laws.proofs.Restoring.{unused_waits}
 
@@ -210,7 +210,7 @@ module _ (old : LayerView) (a : IsOrderly old) (moment count : ℕ) (number : �
     where
       go : (q ≡ number) ⊎ (q ≡ number → ⊥) → ComesFirst q es
       go (inl same) = subst (λ (m : ℕ). ComesFirst m es) (sym same) way.rising.0
-      go (inr apart) = (way.streams_before q (sym (ap (λ (o : Option HeldStream). is_some o) (put_apart q number (held_again moment channel) places.streams apart)) ∙ is)).1
+      go (inr apart) = (way.streams_before q (sym (ap (λ (o : Option HeldStream). is_some o) (put_apart q number (stream_handed_over moment channel) places.streams apart)) ∙ is)).1
 
   all_next : (other q : ℕ) → entry_numbered other old.names ≡ Some q → (entry_numbered other after.names ≡ Some q) ⊎ (is_some (entry_numbered q es) ≡ true)
   all_next other q at = go (way.all other q at)

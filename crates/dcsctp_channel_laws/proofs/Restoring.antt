@@ -11,7 +11,7 @@ use Rattle.dcsctp_channel_calls.specs.declared.channel.HeldStream.{HeldStream}
 use Rattle.dcsctp_channel_calls.specs.messages.channel_spec.Slots.{name_of_slot}
 use Rattle.dcsctp_channel_calls.specs.View.{WaitingChannel, ChannelsView, entry_numbered, slot_of}
 use Rattle.dcsctp_channel_calls.specs.declared.handover.HandoverChannel.{HandoverChannel}
-use Rattle.dcsctp_channel_calls.specs.Handover.{ChannelsPart, ChannelPlaces, no_places, held_again, has_own_place, places_with_channel, places_beside, is_empty, is_unused, places_restored, is_valid_below, streams_of_snapshot, RestoresIfUnused, RestoresIfPlaced}
+use Rattle.dcsctp_channel_calls.specs.Handover.{ChannelsPart, ChannelPlaces, no_places, stream_handed_over, has_own_place, places_with_channel, places_beside, is_empty, is_unused, places_restored, is_valid_below, streams_of_snapshot, RestoresIfUnused, RestoresIfPlaced}
 use Rattle.dcsctp_channel_laws.specs.Handovers.{RestoredAreOrderly}
 
 abbrev AreInOrder : ℕ → ChannelPlaces → Type 0
@@ -46,11 +46,11 @@ module _ (moment named : ℕ) (channel : HandoverChannel) (places : ChannelPlace
 
       go : (number ≡ channel.stream) ⊎ (number ≡ channel.stream → ⊥) → entry_numbered name (places_with_channel moment channel places).names ≡ Some number
       go (inl same) =
-          let here : entry_numbered number (places_with_channel moment channel places).streams ≡ Some (held_again moment channel) = rw same (put_here channel.stream (held_again moment channel) places.streams) in
+          let here : entry_numbered number (places_with_channel moment channel places).streams ≡ Some (stream_handed_over moment channel) = rw same (put_here channel.stream (stream_handed_over moment channel) places.streams) in
           let named_so : channel.name ≡ name = let both : Some channel.name ≡ Some name = sym (ap (λ (o : Option HeldStream). name_of_slot (slot_of o)) here) ∙ is in cc in
           subst (λ (n : ℕ). entry_numbered n (places_with_channel moment channel places).names ≡ Some number) named_so (put_here channel.name channel.stream places.names ∙ ap Some (sym same))
       go (inr apart) =
-          let old : entry_numbered name places.names ≡ Some number = a.leads number name (sym (ap (λ (o : Option HeldStream). name_of_slot (slot_of o)) (put_apart number channel.stream (held_again moment channel) places.streams apart)) ∙ is) in
+          let old : entry_numbered name places.names ≡ Some number = a.leads number name (sym (ap (λ (o : Option HeldStream). name_of_slot (slot_of o)) (put_apart number channel.stream (stream_handed_over moment channel) places.streams apart)) ∙ is) in
           put_apart name channel.name channel.stream places.names (name_apart old) ∙ old
 
   new_led_to : (name number : ℕ) → entry_numbered name (places_with_channel moment channel places).names ≡ Some number → name_of_slot (slot_of (entry_numbered number (places_with_channel moment channel places).streams)) ≡ Some name
@@ -66,11 +66,11 @@ module _ (moment named : ℕ) (channel : HandoverChannel) (places : ChannelPlace
           let here : entry_numbered name (places_with_channel moment channel places).names ≡ Some channel.stream = rw same (put_here channel.name channel.stream places.names) in
           let stream_is : channel.stream ≡ number = let both : Some channel.stream ≡ Some number = sym here ∙ at in cc in
           subst (λ (n : ℕ). name_of_slot (slot_of (entry_numbered n (places_with_channel moment channel places).streams)) ≡ Some name) stream_is
-          (ap (λ (o : Option HeldStream). name_of_slot (slot_of o)) (put_here channel.stream (held_again moment channel) places.streams) ∙ ap Some (sym same))
+          (ap (λ (o : Option HeldStream). name_of_slot (slot_of o)) (put_here channel.stream (stream_handed_over moment channel) places.streams) ∙ ap Some (sym same))
       go (inr apart) =
           let old : entry_numbered name places.names ≡ Some number = sym (put_apart name channel.name channel.stream places.names apart) ∙ at in
           let has : name_of_slot (slot_of (entry_numbered number places.streams)) ≡ Some name = a.led_to name number old in
-          ap (λ (o : Option HeldStream). name_of_slot (slot_of o)) (put_apart number channel.stream (held_again moment channel) places.streams (stream_apart has)) ∙ has
+          ap (λ (o : Option HeldStream). name_of_slot (slot_of o)) (put_apart number channel.stream (stream_handed_over moment channel) places.streams (stream_apart has)) ∙ has
 
   new_was_named : (name number : ℕ) → entry_numbered name (places_with_channel moment channel places).names ≡ Some number → name < named
   new_was_named name number at = go (cases_eq name channel.name)
@@ -82,7 +82,7 @@ module _ (moment named : ℕ) (channel : HandoverChannel) (places : ChannelPlace
   pub placed_in_order : AreInOrder named (places_with_channel moment channel places)
   placed_in_order =
       record {
-        streams_rise = rising_put channel.stream (held_again moment channel) places.streams a.streams_rise;
+        streams_rise = rising_put channel.stream (stream_handed_over moment channel) places.streams a.streams_rise;
         names_rise = rising_put channel.name channel.stream places.names a.names_rise;
         leads = new_leads;
         led_to = new_led_to;

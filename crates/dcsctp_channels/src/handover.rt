@@ -5,7 +5,7 @@ ghost use Rattle.std.specs.List.{list_all};
 ghost use Rattle.dcsctp_channel_calls.specs.api.types.Snapshot.{snapshot, is_valid_snapshot};
 ghost use Rattle.dcsctp_channel_calls.specs.View.{stream_count};
 ghost use Rattle.dcsctp_channel_calls.specs.Calls.{PartGoes};
-ghost use Rattle.dcsctp_channel_calls.specs.Handover.{is_plain, has_settled, are_settled, is_all_taken, has_association, readiness_with_channels, carried_channel, carried_channels, channels_part, layer_handed_over, HandsOverNow, HandsOverChannels, ChannelPlaces, held_again, has_own_place, places_with_channel, places_beside, no_places, is_of_association, is_valid_below, streams_of_snapshot, is_unused, RestoresChannels, RestoresIfPlaced};
+ghost use Rattle.dcsctp_channel_calls.specs.Handover.{is_plain, has_settled, are_settled, is_all_taken, has_association, readiness_with_channels, carried_channel, carried_channels, channels_part, layer_handed_over, HandsOverNow, HandsOverChannels, ChannelPlaces, stream_handed_over, has_own_place, places_with_channel, places_beside, no_places, is_of_association, is_valid_below, streams_of_snapshot, is_unused, RestoresChannels, RestoresIfPlaced};
 ghost use Rattle.dcsctp_channels.specs.Layer.{layer_view, whole_view, Leaves, places_of, PlacesAre};
 
 use crate::below::{gather, stream_count};
@@ -172,8 +172,8 @@ fn hand_over_now<S: DcSctpSocket>(
 
 // ---- what a restore makes of it
 
-fn held_again(moment: SocketTime, channel: &HandoverChannel) -> HeldStream
-    ensures { result ≡ held_again moment channel.now }
+fn stream_handed_over(moment: SocketTime, channel: &HandoverChannel) -> HeldStream
+    ensures { result ≡ stream_handed_over moment channel.now }
 {
     HeldStream {
         stream: rows::lasting(channel.name, channel.heard),
@@ -203,7 +203,7 @@ fn place(moment: SocketTime, channel: &HandoverChannel, table: &mut Table) -> Re
         (places_of table.old)) }
 {
     table.rename(channel.stream, None, Some(channel.name))?;
-    table.put(channel.stream, held_again(moment, channel))
+    table.put(channel.stream, stream_handed_over(moment, channel))
 }
 
 // The places of all channels, if each has its own.

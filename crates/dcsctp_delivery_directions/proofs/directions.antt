@@ -1,5 +1,6 @@
 pub mod Standing
 pub mod Cleared
+pub mod UnderWays
 pub mod Queued
 pub mod Flushing
 pub mod Sending

@@ -1,5 +1,8 @@
 pub mod Places
 pub mod Weights
+pub mod Newest
+pub mod StreamWeights
+pub mod CountedFragments
 pub mod Streams
 pub mod Produced
 pub mod Limits
@@ -7,13 +10,18 @@ pub mod Stages
 pub mod StreamsNamed
 pub mod Turns
 pub mod Numbers
+pub mod Numbered
 pub mod KeptPauses
 pub mod Pauses
+pub mod Fragments
+pub mod WhatLeaves
 pub mod Counting
 pub mod Counted
 pub mod ProducedNumbers
 pub mod ProducedTurns
+pub mod ProducedHeld
 pub mod Begun
+pub mod Continued
 pub mod Pieces
 pub mod Discarding
 pub mod Marks
@@ -49,6 +57,7 @@ pub mod Settings
 pub mod Prepared
 pub mod Marking
 pub mod MarkingAll
+pub mod UnderWayCounts
 pub mod ChunkCounts
 pub mod Handed
 pub mod StayHanded

@@ -11,8 +11,8 @@ ghost use Rattle.dcsctp_delivery_directions.specs.sending.Pieces.{PiecesFollow};
 ghost use Rattle.dcsctp_delivery_directions.specs.sending.Queueing.{QueueingKeeps, KeptQueuesHold, RestartedQueuesHold, SettingKeeps, PreparingKeeps, CommittingKeeps, RollingBackKeeps};
 ghost use Rattle.dcsctp_delivery_directions.specs.sending.Stages.{PacketsBearPieces, GivingUpKeeps};
 
-/// What the send queue hands out is the next piece of a message that was queued: the pieces of a message follow one
-/// another, and messages of a stream are begun in the order in which they were queued, each once.
+/// What the send queue hands out is the next piece of a message that was queued: the pieces of a message come in order,
+/// with none of its stream between them, and messages of a stream are begun in the order in which they were queued.
 pub fn pieces_follow()
     ensures { PiecesFollow }
 {}

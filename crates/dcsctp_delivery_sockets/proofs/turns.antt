@@ -20,8 +20,10 @@ pub mod Sides
 pub mod Idle
 pub mod Numbering
 pub mod Fronts
+pub mod Rests
 pub mod Beginnings
 pub mod Outlasts
+pub mod Rules
 pub mod SenderRuns
 pub mod ReceiverRuns
 pub mod Reporting

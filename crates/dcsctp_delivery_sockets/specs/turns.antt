@@ -6,6 +6,7 @@ pub mod Untouched
 pub mod Sides
 pub mod Addressed
 pub mod Runs
+pub mod Rules
 pub mod Reporting
 pub mod Completing
 pub mod PeerRequests

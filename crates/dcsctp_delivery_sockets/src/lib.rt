@@ -15,6 +15,7 @@ pub use associations_laws::{
 pub use shown_laws::{shown_tags_suffice, sockets_run_t3, users_read_what_was_sent};
 pub use sockets_laws::{acts_keep_ends, echoes_go_to_makers, packets_keep_ends, sockets_deliver};
 pub use turns_laws::{
-    actions_are_steps, data_goes_to_peer, own_requests_complete, peers_requests_turn, runs_go_on,
-    tags_are_own, turns_are_actions, turns_report, turns_tell_resets, unbegun_numbers_stay,
+    actions_are_steps, data_goes_to_peer, own_requests_complete, peers_requests_turn, rules_stay,
+    runs_go_on, tags_are_own, turns_are_actions, turns_report, turns_tell_resets,
+    unbegun_numbers_stay,
 };

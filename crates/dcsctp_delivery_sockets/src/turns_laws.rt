@@ -6,6 +6,7 @@ ghost use Rattle.dcsctp_delivery_sockets.specs.turns.Addressed.{DataGoesToPeer, 
 ghost use Rattle.dcsctp_delivery_sockets.specs.turns.Completing.{CompletesOwn};
 ghost use Rattle.dcsctp_delivery_sockets.specs.turns.PeerRequests.{CalmAsksNothing, EndsAskNothing, PeersTurn, UnlinkedAsksNothing};
 ghost use Rattle.dcsctp_delivery_sockets.specs.turns.Reporting.{TurnsReport};
+ghost use Rattle.dcsctp_delivery_sockets.specs.turns.Rules.{FreshTakesTurns, TurnsStayByOption};
 ghost use Rattle.dcsctp_delivery_sockets.specs.turns.Runs.{ReceiversBegin, ReceiversGoOn, SendersBegin, SendersBeginAgain, SendersGoOn};
 ghost use Rattle.dcsctp_delivery_sockets.specs.turns.Sides.{StepsGoOn, ActionsSend, ActionsReceive};
 ghost use Rattle.dcsctp_delivery_sockets.specs.turns.Tags.{TagsAreOwn, EchoesBearOwnTag, FlushesGoToPeer};
@@ -88,4 +89,11 @@ pub fn unbegun_numbers_stay()
     ensures stays { StaysAtZero }
     ensures begins { UnbegunBeginsAtZero }
     ensures kept { UnbegunBeginsWaiting }
+{}
+
+/// Streams of equal priority take turns if the socket has `follow_rfc` (RFC 8260, sections 3.2 and 3.5). No turn
+/// changes that.
+pub fn rules_stay()
+    ensures made { FreshTakesTurns }
+    ensures stays { TurnsStayByOption }
 {}

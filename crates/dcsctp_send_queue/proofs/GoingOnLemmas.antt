@@ -1,180 +1,220 @@
--- The message under way, and streams that are used.
-use Rattle.std.proofs.Common.{◌≡◌, ◌≢◌, ◌==◌, ◌%◌, nat_le, ℕ, zero, suc, ◌-◌, ◌+◌, ◌^◌, ◌<◌, ◌≤◌, Bool, true, false, if◌then◌else◌, Option, None, Some, Ok, Err, List, [], ◌∷◌, length, set, map, refl, sym, ap, ◌∙◌, arith}
+-- The message under way, and what a fragment of it leaves.
+use Rattle.std.proofs.Common.{◌≡◌, ◌≢◌, ◌==◌, nat_le, ℕ, ◌-◌, ◌<◌, Bool, true, false, if◌then◌else◌, Option, None, Some, is_some, Ok, Err, List, [], ◌∷◌, length, set, refl, sym, ap, subst, ◌∙◌, arith}
 use Rattle.std.proofs.lemmas.Bool.Decides.{nat_tests}
-use Rattle.std.specs.List.{insert}
+use Rattle.std.specs.List.{AllByRecursion}
 use Rattle.dcsctp_api.specs.spec.endpoint.Event.{Event}
-use Rattle.dcsctp_api.specs.spec.queues.SendQueue.{SendQueueState, stream_changed, with_stream, used_streams, IsUnderWay, CanGoOn}
+use Rattle.dcsctp_api.specs.spec.queues.SendQueue.{SendQueueState, IsUnderWay, CanGoOn, HaveBytes, IsHeld, queue_interleaves}
+use Rattle.dcsctp_api.specs.types.declared.ids.StreamId.{StreamId}
 use Rattle.dcsctp_api.specs.types.declared.sending.UnderWay.{UnderWay}
-use Rattle.dcsctp_api.specs.types.queues.SendStreams.{Waiting, Stream, unused_stream, front_of, stream_counted, served_stream, stream_at, IsAscending}
+use Rattle.dcsctp_api.specs.types.queues.SendStreams.{Waiting, Stream, front_of, without_front, stream_with_progress, stream_with_turn_bytes, stream_counted, served_stream, fills_turn, stream_at, IsAscending}
 use Rattle.dcsctp_send_queue.specs.Ranking.{IsFound}
-use Rattle.dcsctp_api.specs.spec.queues.Sending.{Chooses, IsMessageUnderWay, Drops, none, more, reduced_queue, next_turn, begun_message_counted, after_part, after_last, queue_after_producing, is_last}
-use Rattle.dcsctp_send_queue.proofs.StreamLemmas.{stream_at-set, length-set_at}
-use Rattle.dcsctp_send_queue.proofs.NextLemmas.{same_place}
-use Rattle.dcsctp_send_queue.proofs.QueueLemmas.{less_test, not_less_test, changed_at, used_found, lost_after, used_lost, changed_insert, stream_at-either, under_way_set}
+use Rattle.dcsctp_api.specs.spec.queues.Sending.{Chooses, IsMessageUnderWay, Drops, none, more, reduced_queue, next_turn, next_progress, queue_with_stream, queue_numbered, queue_served, queue_with_turn_bytes, fragment_counted, progress_after, released_queue, stream_held_after, is_kept_whole, after_part, after_last, queue_after_producing, is_last, without_rest}
+use Rattle.dcsctp_send_queue.proofs.StreamLemmas.{stream_at-set, length-set_at, counted-id, counted-messages, counted-under_way}
+use Rattle.dcsctp_send_queue.proofs.NextLemmas.{same_place, absent_at}
+use Rattle.dcsctp_send_queue.proofs.QueueLemmas.{set-set}
+use Rattle.dcsctp_send_queue.proofs.HeldLemmas.{held-released}
 
--- a change of a stream that keeps its number and its oldest message
-pub can_go_on-set : (streams : List Stream) (p : ℕ) (s : Stream) (under_way : Option UnderWay) → CanGoOn streams under_way → s.id ≡ (stream_at streams p).id
-    → ((m : Waiting) → front_of (stream_at streams p).messages ≡ Some m → front_of s.messages ≡ Some m) → CanGoOn (set streams p s) under_way
-can_go_on-set streams p s None can same front = tt
-can_go_on-set streams p s (Some u) can same front = under_way_set streams p s u can same front (stream_at-either streams p can.place s can.within)
+-- drops leave the stream that is held
+pub drops-held : (now : ℕ) (old queue : SendQueueState) (events : List (Event (List ℕ))) → Drops now old events queue → queue.held ≡ old.held
+drops-held now old queue events none = refl
+drops-held now old queue events (more told before place message drops next front expired) = drops-held now old before told drops
 
--- where a stream is after another was inserted
-pub record MovedTo (streams more : List Stream) (k : ℕ) : Type 0 where
-  pub to : ℕ
-  pub within : to < length more
-  pub same : stream_at more to ≡ stream_at streams k
+-- ---- what a fragment leaves
 
-pub moved_to : (streams : List Stream) (p k : ℕ) (s : Stream) → p ≤ length streams → k < length streams → MovedTo streams (insert streams p s) k
-moved_to [] p k s le lt = absurd (omega arith)
-moved_to (x ∷ xs) zero k s le lt = record { to = suc k; within = omega arith; same = refl }
-moved_to (x ∷ xs) (suc p) zero s le lt = record { to = zero; within = omega arith; same = refl }
-moved_to (x ∷ xs) (suc p) (suc k) s le lt =
-    let m = moved_to xs p k s (omega arith) (omega arith) in
-    let w = m.within in
-    record { to = suc m.to; within = omega (arith, w); same = m.same }
+-- Only the stream at the place changes, and it keeps its number, its messages and how far the oldest has come.
+pub record KeepsAt (p : ℕ) (queue after : SendQueueState) : Type 0 where
+  pub stream : Stream
+  pub is : after.streams ≡ set queue.streams p stream
+  pub id : stream.id ≡ (stream_at queue.streams p).id
+  pub messages : stream.messages ≡ (stream_at queue.streams p).messages
+  pub under_way : stream.under_way ≡ (stream_at queue.streams p).under_way
+  pub held : after.held ≡ queue.held
+  pub interleaves : queue_interleaves after ≡ queue_interleaves queue
 
--- a stream that is put in
-pub can_go_on-insert : (streams : List Stream) (p : ℕ) (s : Stream) (under_way : Option UnderWay) → CanGoOn streams under_way → p ≤ length streams → CanGoOn (insert streams p s) under_way
-can_go_on-insert streams p s None can le = tt
-can_go_on-insert streams p s (Some u) can le =
-    let m = moved_to streams p can.place s le can.within in
+-- the stream at the place
+pub kept_at : (p : ℕ) (queue after : SendQueueState) → p < length queue.streams → (keeps : KeepsAt p queue after) → stream_at after.streams p ≡ keeps.stream
+kept_at p queue after lt keeps = ap (λ s. stream_at s p) keeps.is ∙ stream_at-set queue.streams p keeps.stream lt
+
+keeps_with : (p : ℕ) (queue after : SendQueueState) (s : Stream) → p < length queue.streams → KeepsAt p queue after → s.id ≡ (stream_at after.streams p).id
+    → s.messages ≡ (stream_at after.streams p).messages → s.under_way ≡ (stream_at after.streams p).under_way → KeepsAt p queue (queue_with_stream p s after)
+keeps_with p queue after s lt keeps id messages under_way =
+    let at = kept_at p queue after lt keeps in
     record {
-      place = m.to;
-      within = m.within;
-      is = ap (λ x. x.id) m.same ∙ can.is;
-      message = can.message;
-      front = ap (λ x. front_of x.messages) m.same ∙ can.front;
-      begun = can.begun;
-      unfinished = can.unfinished;
+      stream = s;
+      is = ap (λ (t : List Stream). set t p s) keeps.is ∙ set-set queue.streams p keeps.stream s;
+      id = id ∙ (ap (λ x. x.id) at ∙ keeps.id);
+      messages = messages ∙ (ap (λ x. x.messages) at ∙ keeps.messages);
+      under_way = under_way ∙ (ap (λ x. x.under_way) at ∙ keeps.under_way);
+      held = keeps.held;
+      interleaves = keeps.interleaves;
     }
 
--- drops leave the message under way
-pub drops-under_way : (now : ℕ) (old queue : SendQueueState) (events : List (Event (List ℕ))) → Drops now old events queue → queue.under_way ≡ old.under_way
-drops-under_way now old queue events none = refl
-drops-under_way now old queue events (more told before place message drops next front expired) = drops-under_way now old before told drops
-
-pub counted-front : (i b : Bool) (s : Stream) → (stream_counted i b s).messages ≡ s.messages
-counted-front false false s = refl
-counted-front false true s = refl
-counted-front true false s = refl
-counted-front true true s = refl
-
-pub counted-number : (i b : Bool) (s : Stream) → (stream_counted i b s).id ≡ s.id
-counted-number false false s = refl
-counted-number false true s = refl
-counted-number true false s = refl
-counted-number true true s = refl
-
-pub part_at : (streams : List Stream) (p size amount turn : ℕ) (i b first : Bool) (u next : UnderWay) (message : Waiting)
-    → p < length streams → (stream_at streams p).id ≡ u.stream_id.0 → front_of (stream_at streams p).messages ≡ Some message
-    → next.stream_id.0 ≡ u.stream_id.0 → 0 < next.sent → next.sent < length message.payload
-    → let reduced_queue = set streams p (record (stream_at streams p) { amount = amount }) in
-    IsUnderWay (if first then set reduced_queue p (served_stream turn (stream_counted i b (stream_at reduced_queue p))) else reduced_queue) next
-part_at streams p size amount turn i b true u next message lt is front same some less =
-    let s = record (stream_at streams p) { amount = amount } in
-    let len = length-set_at streams p s in
-    let at = stream_at-set streams p s lt in
-    let last : Stream = served_stream turn (stream_counted i b (stream_at (set streams p s) p)) in
-    let again = stream_at-set (set streams p s) p last (omega (arith, len)) in
-    let more = length-set_at (set streams p s) p last in
+keeps_reduced : (p size : ℕ) (queue : SendQueueState) → KeepsAt p queue (reduced_queue p size queue)
+keeps_reduced p size queue =
     record {
-      place = p;
-      within = omega (arith, len, more);
-      is = ap (λ x. x.id) again ∙ (counted-number i b (stream_at (set streams p s) p) ∙ (ap (λ x. x.id) at ∙ (is ∙ sym same)));
+      stream = record (stream_at queue.streams p) { amount = (stream_at queue.streams p).amount - size };
+      is = refl;
+      id = refl;
+      messages = refl;
+      under_way = refl;
+      held = refl;
+      interleaves = refl;
+    }
+
+keeps_numbered : (b : Bool) (p : ℕ) (is_unordered : Bool) (queue after : SendQueueState) → p < length queue.streams → KeepsAt p queue after → KeepsAt p queue (queue_numbered p b is_unordered after)
+keeps_numbered true p is_unordered queue after lt keeps =
+    keeps_with p queue after (stream_counted after.is_interleaved is_unordered (stream_at after.streams p)) lt keeps
+    (counted-id after.is_interleaved is_unordered (stream_at after.streams p)) (counted-messages after.is_interleaved is_unordered (stream_at after.streams p))
+    (counted-under_way after.is_interleaved is_unordered (stream_at after.streams p))
+keeps_numbered false p is_unordered queue after lt keeps = keeps
+
+keeps_served : (b : Bool) (p : ℕ) (queue after : SendQueueState) → p < length queue.streams → KeepsAt p queue after → KeepsAt p queue (queue_served p b after)
+keeps_served true p queue after lt keeps =
+    let k = keeps_with p queue after (served_stream (next_turn after) (stream_at after.streams p)) lt keeps refl refl refl in
+    record { stream = k.stream; is = k.is; id = k.id; messages = k.messages; under_way = k.under_way; held = k.held; interleaves = k.interleaves }
+keeps_served false p queue after lt keeps = keeps
+
+keeps_turn : (b : Bool) (p : ℕ) (begins : Bool) (size : ℕ) (queue after : SendQueueState) → p < length queue.streams → KeepsAt p queue after
+    → KeepsAt p queue (if b then queue_served p (fills_turn after.turn_size size (stream_at after.streams p)) (queue_with_turn_bytes p size after) else queue_served p begins after)
+keeps_turn true p begins size queue after lt keeps =
+    keeps_served (fills_turn after.turn_size size (stream_at after.streams p)) p queue (queue_with_turn_bytes p size after) lt
+    (keeps_with p queue after (stream_with_turn_bytes after.turn_size size (stream_at after.streams p)) lt keeps refl refl refl)
+keeps_turn false p begins size queue after lt keeps = keeps_served begins p queue after lt keeps
+
+-- a fragment is counted
+pub keeps_counted : (p size : ℕ) (message : Waiting) (u : UnderWay) (queue : SendQueueState) → p < length queue.streams
+    → KeepsAt p queue (fragment_counted p size message u (reduced_queue p size queue))
+keeps_counted p size message u queue lt =
+    let numbered = queue_numbered p (u.sent == 0) message.is_unordered (reduced_queue p size queue) in
+    keeps_turn (queue_interleaves numbered) p (u.sent == 0) size queue numbered lt
+    (keeps_numbered (u.sent == 0) p message.is_unordered queue (reduced_queue p size queue) lt (keeps_reduced p size queue))
+
+-- the message can continue once a fragment is counted
+pub can_continue : (p : ℕ) (queue after : SendQueueState) (message : Waiting) (next : UnderWay) → p < length queue.streams → KeepsAt p queue after
+    → (stream_at queue.streams p).id ≡ next.stream_id.0 → front_of (stream_at queue.streams p).messages ≡ Some message → 0 < next.sent → next.sent < length message.payload
+    → IsUnderWay (stream_at after.streams p).id (stream_at after.streams p).messages next
+can_continue p queue after message next lt keeps is front some less =
+    let at = kept_at p queue after lt keeps in
+    record {
+      is = ap (λ x. x.id) at ∙ (keeps.id ∙ is);
       message = message;
-      front = ap (λ x. front_of x.messages) again ∙ (ap (λ m. front_of m) (counted-front i b (stream_at (set streams p s) p)) ∙ (ap (λ x. front_of x.messages) at ∙ front));
+      front = ap (λ x. front_of x.messages) at ∙ (ap (λ m. front_of m) keeps.messages ∙ front);
       begun = some;
       unfinished = less;
     }
-part_at streams p size amount turn i b false u next message lt is front same some less =
-    let s = record (stream_at streams p) { amount = amount } in
-    let len = length-set_at streams p s in
-    let at = stream_at-set streams p s lt in
-    record {
-      place = p;
-      within = omega (arith, len);
-      is = ap (λ x. x.id) at ∙ (is ∙ sym same);
-      message = message;
-      front = ap (λ x. front_of x.messages) at ∙ front;
-      begun = some;
-      unfinished = less;
-    }
 
-pub part_goes : (queue : SendQueueState) (place size : ℕ) (first : Bool) (u next : UnderWay) (message : Waiting)
-    → place < length queue.streams → (stream_at queue.streams place).id ≡ u.stream_id.0 → front_of (stream_at queue.streams place).messages ≡ Some message
-    → next.stream_id.0 ≡ u.stream_id.0 → 0 < next.sent → next.sent < length message.payload
-    → IsUnderWay (if first then begun_message_counted place message.is_unordered (reduced_queue place size queue) else reduced_queue place size queue).streams next
-part_goes queue place size true u next message lt is front same some less =
-    part_at queue.streams place size ((stream_at queue.streams place).amount - size) (next_turn queue) queue.is_interleaved message.is_unordered true u next message lt is front same some less
-part_goes queue place size false u next message lt is front same some less =
-    part_at queue.streams place size ((stream_at queue.streams place).amount - size) (next_turn queue) queue.is_interleaved message.is_unordered false u next message lt is front same some less
+-- what is held after a fragment that isn't the last, once it is counted
+pub held_counted : (p : ℕ) (queue after : SendQueueState) (id : StreamId) (message : Waiting) → KeepsAt p queue after → stream_held_after id message after ≡ stream_held_after id message queue
+held_counted p queue after id message keeps = rw keeps.interleaves refl
+
+part_held : (b : Bool) (p : ℕ) (queue after : SendQueueState) (next : UnderWay) (id : StreamId) → p < length queue.streams → KeepsAt p queue after → (stream_at queue.streams p).id ≡ id.0
+    → IsHeld (if b then Some id else None) (set after.streams p (stream_with_progress next (stream_at after.streams p)))
+part_held true p queue after next id lt keeps is =
+    let at = kept_at p queue after lt keeps in
+    let len = ap length keeps.is ∙ length-set_at queue.streams p keeps.stream in
+    let last : Stream = stream_with_progress next (stream_at after.streams p) in
+    let more = length-set_at after.streams p last in
+    let there = stream_at-set after.streams p last (omega (arith, len, lt)) in (
+      p,
+      record {
+        within = omega (arith, len, more, lt);
+        is = ap (λ x. x.id) there ∙ (ap (λ x. x.id) at ∙ (keeps.id ∙ is));
+        goes_on = ap (λ x. is_some x.under_way) there;
+      },
+    )
+part_held false p queue after next id lt keeps is = tt
+
+last_held : (p : ℕ) (queue after : SendQueueState) (id : ℕ) → p < length queue.streams → KeepsAt p queue after → IsHeld queue.held queue.streams → (stream_at queue.streams p).id ≡ id
+    → IsHeld (released_queue id after).held (set after.streams p (without_front (stream_at after.streams p)))
+last_held p queue after id lt keeps held is =
+    let last : Stream = without_front (stream_at after.streams p) in
+    let streams = ap (λ (t : List Stream). set t p last) keeps.is ∙ set-set queue.streams p keeps.stream last in
+    rw streams (held-released after queue.streams p id last (rw keeps.held held) is)
 
 pub not_last : (rest max : ℕ) → nat_le rest max ≡ false → max < rest
 not_last rest max e = grind (arith, nat_tests)
 
-pub produced_goes : (queue : SendQueueState) (place max : ℕ) (message : Waiting) (u : UnderWay) (b : Bool) → is_last max message u ≡ b
-    → place < length queue.streams → (stream_at queue.streams place).id ≡ u.stream_id.0 → front_of (stream_at queue.streams place).messages ≡ Some message → 0 < max
-    → CanGoOn (if b then after_last place message u queue else after_part place max message u queue).streams (if b then after_last place message u queue else after_part place max message u queue).under_way
-produced_goes queue place max message u true e lt is front some = tt
-produced_goes queue place max message u false e lt is front some =
-    let less = not_last (length message.payload - u.sent) max e in
-    part_goes queue place max (u.sent == 0) u (record u { next_fsn = (u.next_fsn + 1) % 2 ^ 32; sent = u.sent + max }) message lt is front refl (omega arith) (omega (arith, less))
+produced_held : (queue : SendQueueState) (place max : ℕ) (message : Waiting) (u : UnderWay) (b : Bool) → place < length queue.streams → (stream_at queue.streams place).id ≡ u.stream_id.0
+    → IsHeld queue.held queue.streams
+    → IsHeld (if b then after_last place message u queue else after_part place max message u queue).held (if b then after_last place message u queue else after_part place max message u queue).streams
+produced_held queue place max message u true lt is held =
+    let size = length message.payload - u.sent in
+    last_held place queue (fragment_counted place size message u (reduced_queue place size queue)) u.stream_id.0 lt (keeps_counted place size message u queue lt) held is
+produced_held queue place max message u false lt is held =
+    part_held (is_kept_whole message queue) place queue (fragment_counted place max message u (reduced_queue place max queue)) (progress_after max u) u.stream_id lt
+    (keeps_counted place max message u queue lt) is
 
--- the message of a fragment can continue, if it isn't fully sent
-pub can_go_on-produced : (queue : SendQueueState) (place max : ℕ) (message : Waiting) (u : UnderWay) → place < length queue.streams → (stream_at queue.streams place).id ≡ u.stream_id.0
-    → front_of (stream_at queue.streams place).messages ≡ Some message → 0 < max
-    → CanGoOn (queue_after_producing place max message u queue).streams (queue_after_producing place max message u queue).under_way
-can_go_on-produced queue place max message u lt is front some = produced_goes queue place max message u (is_last max message u) refl lt is front some
+-- the stream that is held after a fragment has a message under way
+pub held-produced : (queue : SendQueueState) (place max : ℕ) (message : Waiting) (u : UnderWay) → place < length queue.streams → (stream_at queue.streams place).id ≡ u.stream_id.0
+    → IsHeld queue.held queue.streams → IsHeld (queue_after_producing place max message u queue).held (queue_after_producing place max message u queue).streams
+held-produced queue place max message u lt is held = produced_held queue place max message u (is_last max message u) lt is held
 
--- the message under way is taken on
-pub chosen_going : (now : ℕ) (old : SendQueueState) (place : ℕ) (message : Waiting) (u : UnderWay) (w : Option UnderWay) → w ≡ Some u → (stream_at old.streams place).id ≡ u.stream_id.0 → Chooses now old w old place message u
-chosen_going now old place message u w e is = rw e (refl, refl, is)
+-- ---- how far a message has come
 
-pub used-found : (queue : SendQueueState) (p id : ℕ) → IsAscending queue.streams → IsFound queue.streams id (Ok p) → used_streams queue id ≡ queue.streams
-used-found queue p id ascending found = let e = used_found queue.streams p id ascending found in rw e refl
+-- a message of the stream, of which some bytes are left
+pub record ComesFrom (stream : Stream) (u : UnderWay) (message : Waiting) : Type 0 where
+  pub is : stream.id ≡ u.stream_id.0
+  pub less : u.sent < length message.payload
 
-pub used-lost : (queue : SendQueueState) (p id : ℕ) → IsFound queue.streams id (Err p) → used_streams queue id ≡ with_stream (unused_stream id queue.default_priority queue.default_threshold) queue.streams
-used-lost queue p id lost = let e = used_lost queue.streams p id lost in rw e refl
+some_bytes : (messages : List Waiting) (message : Waiting) → AllByRecursion (λ (m : Waiting). 0 < length m.payload) messages → front_of messages ≡ Some message → 0 < length message.payload
+some_bytes [] message all e = cc
+some_bytes (x ∷ xs) message all e = let same : x ≡ message = cc in rw (sym same) all.0
 
-pub insert-with_stream : (streams : List Stream) (p : ℕ) (u : Stream) → IsFound streams u.id (Err p) → insert streams p u ≡ with_stream u streams
-insert-with_stream [] zero u lost = refl
-insert-with_stream [] (suc p) u lost = absurd (let b = lost.0 in omega arith)
-insert-with_stream (x ∷ xs) zero u lost =
-    let b = lost.2 zero (omega arith) (omega arith) in
-    let g = not_less_test x.id u.id (omega (arith, b)) in
-    rw g refl
-insert-with_stream (x ∷ xs) (suc p) u lost =
-    let b = lost.1 zero (omega arith) in
-    let g = less_test x.id u.id (omega (arith, b)) in
-    rw g (ap (λ ts. x ∷ ts) (insert-with_stream xs p u (lost_after x xs p u.id lost)))
+comes_by : (stream : Stream) (message : Waiting) (w : Option UnderWay) → stream.under_way ≡ w → CanGoOn stream → HaveBytes stream → front_of stream.messages ≡ Some message
+    → ComesFrom stream (next_progress message stream) message
+comes_by stream message None e can bytes front = rw e (record { is = refl; less = some_bytes stream.messages message bytes front })
+comes_by stream message (Some u) e can bytes front =
+    let goes : IsUnderWay stream.id stream.messages u = rw e at can in
+    let both : Some goes.message ≡ Some message = sym goes.front ∙ front in
+    let same : goes.message ≡ message = cc in
+    let less : u.sent < length message.payload = rw same at goes.unfinished in
+    rw e (record { is = goes.is; less = less })
 
--- a stream that is put in, as it is used first
-pub insert-used : (queue : SendQueueState) (p id : ℕ) → IsFound queue.streams id (Err p) → insert queue.streams p (unused_stream id queue.default_priority queue.default_threshold) ≡ used_streams queue id
-insert-used queue p id lost = insert-with_stream queue.streams p (unused_stream id queue.default_priority queue.default_threshold) lost ∙ sym (used-lost queue p id lost)
+-- The oldest message of a stream has bytes left, whether it is under way or is begun.
+pub comes_from : (stream : Stream) (message : Waiting) → CanGoOn stream → HaveBytes stream → front_of stream.messages ≡ Some message → ComesFrom stream (next_progress message stream) message
+comes_from stream message can bytes front = comes_by stream message stream.under_way refl can bytes front
 
--- a changed stream that is put in, as it is used first
-pub insert-changed : (queue : SendQueueState) (p id : ℕ) (f : Stream → Stream) → IsFound queue.streams id (Err p) → insert queue.streams p (f (unused_stream id queue.default_priority queue.default_threshold)) ≡ stream_changed id f (used_streams queue id)
-insert-changed queue p id f lost =
-    changed_insert queue.streams p id (unused_stream id queue.default_priority queue.default_threshold) f lost refl ∙ ap (λ ts. stream_changed id f ts) (sym (used-lost queue p id lost))
+going_by : (stream : Stream) (w : Option UnderWay) → stream.under_way ≡ w → is_some w ≡ true → CanGoOn stream → (message : Waiting) × (front_of stream.messages ≡ Some message)
+going_by stream None e some can = absurd (cc)
+going_by stream (Some u) e some can = let goes : IsUnderWay stream.id stream.messages u = rw e at can in (goes.message, goes.front)
 
--- a change of a stream that was used
-pub set-changed : (queue : SendQueueState) (p id : ℕ) (f : Stream → Stream) → IsAscending queue.streams → IsFound queue.streams id (Ok p) → set queue.streams p (f (stream_at queue.streams p)) ≡ stream_changed id f (used_streams queue id)
-set-changed queue p id f ascending found =
-    changed_at queue.streams p id f ascending found ∙ ap (λ ts. stream_changed id f ts) (sym (used-found queue p id ascending found))
+-- a stream with a message under way has a message
+pub going_front : (stream : Stream) → is_some stream.under_way ≡ true → CanGoOn stream → (message : Waiting) × (front_of stream.messages ≡ Some message)
+going_front stream some can = going_by stream stream.under_way refl some can
 
--- another message is under way
-pub not_named : (queue : SendQueueState) (stream message_id p : ℕ) (message : Waiting) → IsAscending queue.streams → IsFound queue.streams stream (Ok p) → front_of (stream_at queue.streams p).messages ≡ Some message → message.message_id ≢ message_id → IsMessageUnderWay queue stream message_id → ⊥
+-- the stream that is held is chosen
+pub chosen_held : (now : ℕ) (old : SendQueueState) (place : ℕ) (message : Waiting) (held : StreamId) (w : Option StreamId) → w ≡ Some held → (stream_at old.streams place).id ≡ held.0
+    → Chooses now old w old place message
+chosen_held now old place message held w e is = rw e (refl, is)
+
+-- ---- a message that is named
+
+-- Another message is under way on the stream, or none.
+pub not_named : (queue : SendQueueState) (stream message_id p : ℕ) (message : Waiting) → IsAscending queue.streams → IsFound queue.streams stream (Ok p) → front_of (stream_at queue.streams p).messages ≡ Some message
+    → message.message_id ≢ message_id → IsMessageUnderWay queue stream message_id → ⊥
 not_named queue stream message_id p message ascending found front other named =
     let same = same_place queue.streams named.place p ascending named.within found.0 (named.is ∙ sym found.1) in
     let e : Some named.message ≡ Some message = sym named.front ∙ (ap (λ k. front_of (stream_at queue.streams k).messages) same ∙ front) in
     let m : named.message ≡ message = cc in
     other (ap (λ w. w.message_id) (sym m) ∙ named.named)
 
-pub map_at : (f : Stream → Stream) (streams : List Stream) (k : ℕ) → k < length streams → stream_at (map f streams) k ≡ f (stream_at streams k)
-map_at f [] k lt = absurd (omega arith)
-map_at f (x ∷ xs) zero lt = refl
-map_at f (x ∷ xs) (suc k) lt = map_at f xs k (omega arith)
+pub none_named : (queue : SendQueueState) (stream message_id p : ℕ) → IsAscending queue.streams → IsFound queue.streams stream (Ok p) → (stream_at queue.streams p).under_way ≡ None
+    → IsMessageUnderWay queue stream message_id → ⊥
+none_named queue stream message_id p ascending found idle named =
+    let same = same_place queue.streams named.place p ascending named.within found.0 (named.is ∙ sym found.1) in
+    let e : Some named.under_way ≡ None = sym named.goes_on ∙ (ap (λ k. (stream_at queue.streams k).under_way) same ∙ idle) in
+    absurd (cc)
 
-pub map_length : (f : Stream → Stream) (streams : List Stream) → length (map f streams) ≡ length streams
-map_length f [] = refl
-map_length f (x ∷ xs) = let e = map_length f xs in omega (arith, e)
+pub lost_named : (queue : SendQueueState) (stream message_id p : ℕ) → IsFound queue.streams stream (Err p) → IsMessageUnderWay queue stream message_id → ⊥
+lost_named queue stream message_id p lost named = absent_at queue.streams stream p named.place lost named.within named.is
+
+-- ---- a message that is dropped
+
+-- The stream that is held has a message under way once the rest of another's is dropped, and it is held no longer if it was its own.
+pub held-discarded : (old : SendQueueState) (place sent : ℕ) (message : Waiting) (id : ℕ) → IsHeld old.held old.streams → (stream_at old.streams place).id ≡ id
+    → IsHeld (released_queue id (without_rest place sent message old)).held (without_rest place sent message old).streams
+held-discarded old place sent message id held is =
+    let less : Stream = record (stream_at old.streams place) { amount = (stream_at old.streams place).amount - (length message.payload - sent) } in
+    let last : Stream = without_front (stream_at (set old.streams place less) place) in
+    let streams = set-set old.streams place less last in
+    subst (λ (t : List Stream). IsHeld (released_queue id old).held t) (sym streams) (held-released old old.streams place id last held is)

@@ -1,12 +1,10 @@
--- Queues, their streams by number, and the message under way.
-use Rattle.std.proofs.Common.{◌≡◌, ◌≢◌, ◌==◌, nat_lt, ℕ, zero, suc, ◌<◌, ◌≤◌, true, false, Some, Ok, Err, ◌⊎◌, inl, inr, List, [], ◌∷◌, length, set, refl, sym, ap, ◌∙◌, arith}
+-- Queues, and their streams by number.
+use Rattle.std.proofs.Common.{◌≡◌, ◌≢◌, ◌==◌, nat_lt, ℕ, zero, suc, ◌<◌, ◌≤◌, true, false, Ok, Err, ◌⊎◌, inl, inr, List, [], ◌∷◌, length, set, refl, sym, ap, arith}
 use Rattle.std.proofs.lemmas.Bool.Decides.{nat_tests}
 use Rattle.std.specs.List.{insert}
-use Rattle.dcsctp_api.specs.types.declared.sending.UnderWay.{UnderWay}
-use Rattle.dcsctp_api.specs.types.queues.SendStreams.{Waiting, Stream, front_of, stream_at, IsBelow, IsAscending}
+use Rattle.dcsctp_api.specs.types.queues.SendStreams.{Stream, stream_at, IsBelow, IsAscending}
 use Rattle.dcsctp_send_queue.specs.Ranking.{IsFound}
-use Rattle.dcsctp_api.specs.spec.queues.SendQueue.{stream_changed, with_stream, is_used, stream_found, IsUnderWay}
-use Rattle.dcsctp_send_queue.proofs.StreamLemmas.{length-set_at}
+use Rattle.dcsctp_api.specs.spec.queues.SendQueue.{stream_changed, with_stream, is_used, stream_found}
 
 pub same_test : (a b : ℕ) → a ≡ b → (a == b) ≡ true
 same_test a b e = grind (arith, nat_tests)
@@ -111,31 +109,8 @@ stream_at-either (x ∷ xs) (suc p) (suc k) s lt =
       | inr h ↦ inr h
     ]
 
-pub under_way_set : (streams : List Stream) (p : ℕ) (s : Stream) (u : UnderWay) (goes_on : IsUnderWay streams u) → s.id ≡ (stream_at streams p).id
-    → ((m : Waiting) → front_of (stream_at streams p).messages ≡ Some m → front_of s.messages ≡ Some m)
-    → ((goes_on.place ≡ p) × (stream_at (set streams p s) goes_on.place ≡ s)) ⊎ (stream_at (set streams p s) goes_on.place ≡ stream_at streams goes_on.place)
-    → IsUnderWay (set streams p s) u
-under_way_set streams p s u goes_on same front (inl h) =
-    let len = length-set_at streams p s in
-    let within = goes_on.within in
-    record {
-      place = goes_on.place;
-      within = omega (arith, len, within);
-      is = ap (λ x. x.id) h.1 ∙ (same ∙ (ap (λ k. (stream_at streams k).id) (sym h.0) ∙ goes_on.is));
-      message = goes_on.message;
-      front = ap (λ x. front_of x.messages) h.1 ∙ front goes_on.message (ap (λ k. front_of (stream_at streams k).messages) (sym h.0) ∙ goes_on.front);
-      begun = goes_on.begun;
-      unfinished = goes_on.unfinished;
-    }
-under_way_set streams p s u goes_on same front (inr h) =
-    let len = length-set_at streams p s in
-    let within = goes_on.within in
-    record {
-      place = goes_on.place;
-      within = omega (arith, len, within);
-      is = ap (λ x. x.id) h ∙ goes_on.is;
-      message = goes_on.message;
-      front = ap (λ x. front_of x.messages) h ∙ goes_on.front;
-      begun = goes_on.begun;
-      unfinished = goes_on.unfinished;
-    }
+-- a stream that is changed twice
+pub set-set : (streams : List Stream) (p : ℕ) (a b : Stream) → set (set streams p a) p b ≡ set streams p b
+set-set [] p a b = refl
+set-set (x ∷ xs) zero a b = refl
+set-set (x ∷ xs) (suc p) a b = ap (λ ts. x ∷ ts) (set-set xs p a b)

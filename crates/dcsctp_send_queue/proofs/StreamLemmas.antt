@@ -2,9 +2,8 @@
 use Rattle.std.proofs.Common.{◌≡◌, ◌≢◌, ℕ, zero, suc, ◌+◌, ◌<◌, ◌≤◌, Bool, true, false, if◌then◌else◌, Option, None, Some, List, [], ◌∷◌, length, get_or, set, refl, sym, ap, ◌∙◌, arith}
 use Rattle.std.specs.List.{remove}
 use Rattle.dcsctp_api.specs.types.declared.sending.Turn.{Turn}
-use Rattle.dcsctp_api.specs.types.declared.sending.Pause.{Pause}
-use Rattle.dcsctp_api.specs.types.declared.sending.Pause.TheVariants.{Open, Pausing, HandedOut}
-use Rattle.dcsctp_api.specs.types.queues.SendStreams.{comes_after, with_turn, with_optional_turn, Waiting, Stream, stream_counted, stream_at, turn_if, turn_of, turns_of, IsBelow, IsAscending}
+use Rattle.dcsctp_api.specs.types.queues.SendStreams.{comes_after, with_turn, with_optional_turn, Stream, stream_counted, stream_at, may_send_on, turn_of, turns_of, IsBelow, IsAscending}
+use Rattle.dcsctp_send_queue.specs.Pausing.{pause_in_order}
 use Rattle.dcsctp_send_queue.specs.Turns.{IsOrdered, HoldsTurns}
 use Rattle.dcsctp_send_queue.specs.Ranking.{IsRanked}
 use Rattle.dcsctp_send_queue.proofs.TurnLemmas.{IsOrdered-with_turn, with_turn-with_turn}
@@ -22,15 +21,15 @@ ascending_at (x ∷ xs) zero (suc j) ascending lt within = IsBelow-at x.id xs j 
 ascending_at (x ∷ xs) (suc i) zero ascending lt within = absurd (omega arith)
 ascending_at (x ∷ xs) (suc i) (suc j) ascending lt within = ascending_at xs i j ascending.1 (omega arith) (omega arith)
 
-pub turn_if-id : (priority last id : ℕ) (pause : Pause) (messages : List Waiting) (t : Turn) → turn_if priority last id pause messages ≡ Some t → t.stream_id.0 ≡ id
-turn_if-id priority last id Open [] t e = cc
-turn_if-id priority last id Open (message ∷ messages) t e = let f : record { priority = priority; last_turn = last; stream_id = record { 0 = id } } ≡ t = cc in rw (← f) refl
-turn_if-id priority last id Pausing messages t e = cc
-turn_if-id priority last id HandedOut messages t e = cc
+turn_by-id : (b : Bool) (own t : Turn) → (if b then Some own else None) ≡ Some t → t ≡ own
+turn_by-id false own t e = cc
+turn_by-id true own t e = cc
 
 -- a stream's turn bears its number
 pub turn_of-id : (stream : Stream) (t : Turn) → turn_of stream ≡ Some t → t.stream_id.0 ≡ stream.id
-turn_of-id stream t e = turn_if-id stream.priority stream.last_turn stream.id stream.pause stream.messages t e
+turn_of-id stream t e =
+    let own : Turn = record { priority = stream.priority; last_turn = stream.last_turn; stream_id = record { 0 = stream.id } } in
+    ap (λ (x : Turn). x.stream_id.0) (turn_by-id (may_send_on stream.under_way stream.pause stream.messages) own t e)
 
 pub swap_turns : (a b : Option Turn) (i j : ℕ) (turns : List Turn) → ((t : Turn) → a ≡ Some t → t.stream_id.0 ≡ i) → ((t : Turn) → b ≡ Some t → t.stream_id.0 ≡ j) → i ≢ j → with_optional_turn a (with_optional_turn b turns) ≡ with_optional_turn b (with_optional_turn a turns)
 swap_turns None None i j turns ha hb apart = refl
@@ -197,7 +196,7 @@ counted-turn false true s = refl
 counted-turn true false s = refl
 counted-turn true true s = refl
 
-pub counted-pause : (is_interleaved is_unordered : Bool) (s : Stream) → (stream_counted is_interleaved is_unordered s).pause ≡ s.pause
+pub counted-pause : (is_interleaved is_unordered : Bool) (s : Stream) → pause_in_order (stream_counted is_interleaved is_unordered s) ≡ pause_in_order s
 counted-pause false false s = refl
 counted-pause false true s = refl
 counted-pause true false s = refl
@@ -208,6 +207,12 @@ counted-messages false false s = refl
 counted-messages false true s = refl
 counted-messages true false s = refl
 counted-messages true true s = refl
+
+pub counted-under_way : (is_interleaved is_unordered : Bool) (s : Stream) → (stream_counted is_interleaved is_unordered s).under_way ≡ s.under_way
+counted-under_way false false s = refl
+counted-under_way false true s = refl
+counted-under_way true false s = refl
+counted-under_way true true s = refl
 
 -- the number of a stream that was read
 pub id_read : (streams inside : List Stream) (m n : ℕ) (x : Stream) → inside ≡ streams → m < length streams → x ≡ get_or inside m x → n ≡ x.id → n ≡ (stream_at streams m).id

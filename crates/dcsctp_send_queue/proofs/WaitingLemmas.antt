@@ -1,16 +1,12 @@
 -- Messages that wait, and streams by number.
-use Rattle.std.proofs.Common.{◌≡◌, ℕ, zero, suc, ◌-◌, ◌+◌, ◌<◌, Some, Ok, Err, List, [], ◌∷◌, length, set, drop, refl, sym, ap, ◌∙◌, arith}
+use Rattle.std.proofs.Common.{◌≡◌, ℕ, zero, suc, ◌-◌, ◌+◌, ◌<◌, Bool, true, false, if◌then◌else◌, Option, None, Some, List, [], ◌∷◌, length, set, drop, refl, ap, ◌∙◌, arith}
 use Rattle.dcsctp_api.specs.types.declared.sending.Pause.{Pause}
-use Rattle.dcsctp_api.specs.types.declared.sending.Pause.TheVariants.{Open, Pausing, HandedOut}
 use Rattle.dcsctp_api.specs.types.declared.sending.Turn.{Turn}
-use Rattle.dcsctp_api.specs.types.queues.SendStreams.{Waiting, Stream, front_of, without_front, stream_at, turn_if, IsNext, IsAscending}
-use Rattle.dcsctp_send_queue.specs.Ranking.{IsFound}
-use Rattle.dcsctp_api.specs.spec.queues.SendQueue.{SendQueueState, IsUnderWay}
+use Rattle.dcsctp_api.specs.types.queues.SendStreams.{Waiting, Stream, front_of, without_front, stream_at, may_send_on, IsNext}
+use Rattle.dcsctp_api.specs.spec.queues.SendQueue.{SendQueueState}
 use Rattle.dcsctp_api.specs.spec.queues.Sending.{without_rest}
-use Rattle.dcsctp_send_queue.specs.Leaving.{HasUnsentBytes, HasMore}
 use Rattle.dcsctp_api.specs.types.declared.sending.UnderWay.{UnderWay}
 use Rattle.dcsctp_send_queue.proofs.StreamLemmas.{stream_at-set, length-set_at}
-use Rattle.dcsctp_send_queue.proofs.NextLemmas.{same_place, absent_at}
 
 -- how many messages the streams have together
 abbrev pub count_messages : List Stream → ℕ
@@ -27,17 +23,20 @@ count-without [] p s message lt e is = absurd (omega arith)
 count-without (x ∷ xs) zero s message lt e is = let f = fewer_by x.messages message e in let g = ap length is in omega (arith, f, g)
 count-without (x ∷ xs) (suc p) s message lt e is = let ih = count-without xs p s message (omega arith) e is in omega (arith, ih)
 
-turn_has : (priority last id : ℕ) (pause : Pause) (messages : List Waiting) (t : Turn) → turn_if priority last id pause messages ≡ Some t → (m : Waiting) × (front_of messages ≡ Some m)
-turn_has priority last id Open [] t e = cc
-turn_has priority last id Open (m ∷ messages) t e = (m, refl)
-turn_has priority last id Pausing messages t e = cc
-turn_has priority last id HandedOut messages t e = cc
+turn_has : (u : Option UnderWay) (pause : Pause) (messages : List Waiting) → may_send_on u pause messages ≡ true → (m : Waiting) × (front_of messages ≡ Some m)
+turn_has u pause [] e = cc
+turn_has u pause (m ∷ messages) e = (m, refl)
+
+has_turn_by : (b : Bool) (own t : Turn) → (if b then Some own else None) ≡ Some t → b ≡ true
+has_turn_by true own t e = refl
+has_turn_by false own t e = cc
 
 -- a stream with a turn has a message
 pub next_front : (streams : List Stream) (place : ℕ) → IsNext streams place → (m : Waiting) × (front_of (stream_at streams place).messages ≡ Some m)
 next_front streams place next =
     let s = stream_at streams place in
-    turn_has s.priority s.last_turn s.id s.pause s.messages next.turn next.is
+    let own : Turn = record { priority = s.priority; last_turn = s.last_turn; stream_id = record { 0 = s.id } } in
+    turn_has s.under_way s.pause s.messages (has_turn_by (may_send_on s.under_way s.pause s.messages) own next.turn next.is)
 
 count-same : (streams : List Stream) (p : ℕ) (s : Stream) → p < length streams → s.messages ≡ (stream_at streams p).messages → count_messages (set streams p s) ≡ count_messages streams
 count-same [] p s lt is = absurd (omega arith)
@@ -53,27 +52,3 @@ count-without_rest queue place sent message lt front =
     let first = count-same queue.streams place less lt refl in
     let second = count-without (set queue.streams place less) place (without_front (stream_at (set queue.streams place less) place)) message (omega (arith, len)) (ap (λ s. front_of s.messages) at ∙ front) refl in
     omega (arith, first, second)
-
--- the stream of the message under way was found
-pub under_way_at : (streams : List Stream) (under_way : UnderWay) (p : ℕ) → IsAscending streams → IsUnderWay streams under_way → IsFound streams under_way.stream_id.0 (Ok p) → HasUnsentBytes streams p under_way.sent
-under_way_at streams under_way p ascending goes_on found =
-    let same = same_place streams goes_on.place p ascending goes_on.within found.0 (goes_on.is ∙ sym found.1) in
-    record {
-      within = found.0;
-      message = goes_on.message;
-      front = ap (λ k. front_of (stream_at streams k).messages) (sym same) ∙ goes_on.front;
-      rest = let u = goes_on.unfinished in omega arith;
-    }
-
-pub under_way_more : (streams : List Stream) (under_way : UnderWay) (p : ℕ) → IsAscending streams → IsUnderWay streams under_way → IsFound streams under_way.stream_id.0 (Ok p) → HasMore streams p under_way.sent
-under_way_more streams under_way p ascending goes_on found =
-    let same = same_place streams goes_on.place p ascending goes_on.within found.0 (goes_on.is ∙ sym found.1) in
-    record {
-      within = found.0;
-      message = goes_on.message;
-      front = ap (λ k. front_of (stream_at streams k).messages) (sym same) ∙ goes_on.front;
-      more = goes_on.unfinished;
-    }
-
-pub under_way_not_lost : (streams : List Stream) (under_way : UnderWay) (p : ℕ) → IsUnderWay streams under_way → IsFound streams under_way.stream_id.0 (Err p) → ⊥
-under_way_not_lost streams under_way p goes_on lost = absent_at streams under_way.stream_id.0 p goes_on.place lost goes_on.within goes_on.is

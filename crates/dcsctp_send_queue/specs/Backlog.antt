@@ -1,12 +1,12 @@
 -- A send queue apart from memory.
-use Rattle.dcsctp_api.specs.spec.queues.SendQueue.{SendQueueState}
+use Rattle.dcsctp_api.specs.spec.queues.SendQueue.{SendQueueState, IsHeld}
 use Rattle.dcsctp_send_queue.specs.declared.backlog.Backlog.{Backlog}
 
 abbrev pub queue_of : Backlog → SendQueueState
 queue_of backlog =
     record {
       streams = backlog.streams;
-      under_way = backlog.under_way;
+      held = backlog.held;
       total_amount = backlog.total_amount;
       total_threshold = backlog.total_threshold;
       default_priority = backlog.default_priority;
@@ -15,4 +15,9 @@ queue_of backlog =
       next_message_id = backlog.next_message_id;
       takes_turns = backlog.takes_turns;
       turns_taken = backlog.turns_taken;
+      turn_size = backlog.turn_size;
     }
+
+-- A stream that is held has a message under way.
+abbrev pub HasHeldStream : Backlog → Type 0
+HasHeldStream backlog = IsHeld backlog.held backlog.streams

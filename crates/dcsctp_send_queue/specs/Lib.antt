@@ -8,5 +8,6 @@ pub mod Fragment
 pub mod Lending
 pub mod Pausing
 pub mod Ranking
+pub mod Sound
 pub mod Telling
 pub mod Turns

@@ -4,11 +4,12 @@ ghost use Rattle.std.specs.Prelude.{◌≡◌, ◌&&◌};
 ghost use Rattle.dcsctp_api.specs.spec.queues.SendEvents.{falls_low};
 
 mod handover;
+mod numbering;
 mod producing;
 mod resetting;
 mod restoring;
 
-use crate::{OutgoingStream, QueuedMessage, Streams, UnderWay};
+use crate::{OutgoingStream, QueuedMessage, Streams};
 use dcsctp_api::{Events, SocketEvent, SocketTime, StreamId};
 use std::alloc::{AllocError, Global};
 
@@ -19,14 +20,15 @@ fn falls_low(threshold: usize, amount: usize, by: usize) -> bool
     threshold < amount && amount.saturating_sub(by) <= threshold
 }
 
-/// The streams with their messages, and the message under way.
+/// The streams with their messages.
 #[derive(Drop)]
 pub struct Backlog {
     pub alloc: Global,
     pub streams: Streams,
 
-    /// It is the oldest of its stream.
-    pub under_way: Option<UnderWay>,
+    /// The stream whose message under way goes on before any other is asked; none if no message is under way,
+    /// or if all that are can be interleaved.
+    pub held: Option<StreamId>,
 
     pub total_amount: usize,
     pub total_threshold: usize,
@@ -43,20 +45,23 @@ pub struct Backlog {
 
     /// How many turns were taken; 0 if streams don't take turns.
     pub turns_taken: u64,
+
+    /// How many payload bytes a turn has where messages are interleaved.
+    pub turn_size: usize,
 }
 
 impl Backlog {
-    ghost use Rattle.dcsctp_send_queue.specs.Backlog.{queue_of};
-    ghost use Rattle.dcsctp_api.specs.spec.queues.SendQueue.{CanGoOn, IsUnderWay, has_queued_data, has_waiting_message, stream_changed, used_streams, put_back, with_threshold, with_priority, may_send};
-    ghost use Rattle.dcsctp_api.specs.spec.queues.OwnResets.{with_used, count_under_way, waits_for_reset};
+    ghost use Rattle.dcsctp_send_queue.specs.Backlog.{queue_of, HasHeldStream};
+    ghost use Rattle.dcsctp_api.specs.spec.queues.SendQueue.{IsHeld, queue_interleaves, has_queued_data, has_waiting_message, stream_changed, used_streams, put_back, with_threshold, with_priority};
+    ghost use Rattle.dcsctp_api.specs.spec.queues.OwnResets.{with_used, waits_for_reset};
     ghost use Rattle.dcsctp_api.specs.types.Setting.{stream_priority, stream_low_threshold};
     ghost use Rattle.dcsctp_api.specs.spec.endpoint.SettingOutcomes.{set_in_queue};
-    ghost use Rattle.std.specs.Prelude.{◌≡◌, ◌==◌, ◌+◌, ◌-◌, ◌<◌, ◌++◌, length, Some, None, Ok, Err, OnOk, OnErr, IfOk, IfSome};
+    ghost use Rattle.std.specs.Prelude.{◌≡◌, ◌==◌, ◌+◌, ◌-◌, ◌<◌, ◌++◌, length, Some, None, Ok, Err, OnOk, OnErr, IfOk};
     ghost use Rattle.dcsctp_api.specs.types.queues.SendStreams.{Waiting, unused_stream, front_of, with_message, stream_at, IsAscending};
     ghost use Rattle.dcsctp_send_queue.specs.Telling.{contents, AddsFront};
     ghost use Rattle.dcsctp_send_queue.specs.Ranking.{IsFound};
-    ghost use Rattle.dcsctp_api.specs.spec.queues.Sending.{reduced_queue, without_rest, drop_events, part_events};
-    ghost use Rattle.dcsctp_send_queue.specs.Leaving.{HasMore, HasUnsentBytes};
+    ghost use Rattle.dcsctp_api.specs.spec.queues.Sending.{reduced_queue, without_rest, drop_events, part_events, may_be_abandoned, stream_held_after, released_queue};
+    ghost use Rattle.dcsctp_api.specs.spec.queues.SendQueue.{IsGoingOn};
 
     /// A stream that was never used.
     pub fn new_stream(&self, stream_id: StreamId) -> OutgoingStream
@@ -80,8 +85,7 @@ impl Backlog {
                   (with_message message) (used_streams (queue_of self.old) stream_id.0);
             }) }
         ensures was_ascending { IsAscending self.old.streams }
-        ensures can { CanGoOn self.old.streams self.old.under_way
-            → CanGoOn self.new.streams self.new.under_way }
+        ensures held { HasHeldStream self.old → HasHeldStream self.new }
         ensures err { OnErr result (self.new ≡ self.old) }
     {
         match self.streams.find(stream_id) {
@@ -105,8 +109,7 @@ impl Backlog {
         ensures place { IfOk result (λ place. IsFound self.new.streams stream_id.0 (Ok place)) }
         ensures ascending { IsAscending self.new.streams }
         ensures was_ascending { IsAscending self.old.streams }
-        ensures can { CanGoOn self.old.streams self.old.under_way
-            → CanGoOn self.new.streams self.new.under_way }
+        ensures held { HasHeldStream self.old → HasHeldStream self.new }
         ensures err { OnErr result (self.new ≡ self.old) }
     {
         match self.streams.find(stream_id) {
@@ -125,8 +128,7 @@ impl Backlog {
             (queue_of self.new
             ≡ set_in_queue (stream_low_threshold stream_id.0 bytes) (queue_of self.old)) }
         ensures was_ascending { IsAscending self.old.streams }
-        ensures can { CanGoOn self.old.streams self.old.under_way
-            → CanGoOn self.new.streams self.new.under_way }
+        ensures held { HasHeldStream self.old → HasHeldStream self.new }
         ensures err { OnErr result (self.new ≡ self.old) }
     {
         let place = self.use_stream(stream_id)?;
@@ -140,8 +142,7 @@ impl Backlog {
             (queue_of self.new
             ≡ set_in_queue (stream_priority stream_id.0 priority) (queue_of self.old)) }
         ensures was_ascending { IsAscending self.old.streams }
-        ensures can { CanGoOn self.old.streams self.old.under_way
-            → CanGoOn self.new.streams self.new.under_way }
+        ensures held { HasHeldStream self.old → HasHeldStream self.new }
         ensures err { OnErr result (self.new ≡ self.old) }
     {
         let place = self.use_stream(stream_id)?;
@@ -153,17 +154,14 @@ impl Backlog {
     pub fn may_send(&self) -> bool
         ensures { result ≡ has_queued_data (queue_of self.now) }
     {
-        match self.under_way {
-            Some(_) => true,
-            None => self.streams.has_turn(),
-        }
+        self.streams.has_turn()
     }
 
     /// Does a message wait at the moment `now` that can be sent?
     pub fn waits_at(&self, now: SocketTime) -> bool
         ensures { result ≡ has_waiting_message now (queue_of self.now) }
     {
-        self.under_way.is_some() || self.streams.waits_at(now)
+        self.streams.waits_at(now)
     }
 
     /// Does a message without a lifetime wait for the reset of its stream?
@@ -173,15 +171,13 @@ impl Backlog {
         self.streams.waits_for_reset()
     }
 
-    /// The place of the stream of the message under way.
-    pub fn place_of(&self, under_way: UnderWay) -> usize
-        requires { IsUnderWay self.now.streams under_way }
-        ensures rest { HasUnsentBytes self.now.streams result under_way.sent }
-        ensures more { HasMore self.now.streams result under_way.sent }
-        ensures stream { (stream_at self.now.streams result).id ≡ under_way.stream_id.0 }
+    /// The place of the stream that is held.
+    pub fn place_of(&self, held: StreamId) -> usize
+        requires { IsHeld (Some held) self.now.streams }
+        ensures place { IsGoingOn self.now.streams held result }
         ensures ascending { IsAscending self.now.streams }
     {
-        match self.streams.find(under_way.stream_id) {
+        match self.streams.find(held) {
             Ok(place) => place,
             Err(place) => place,
         }
@@ -252,30 +248,49 @@ impl Backlog {
         Ok(())
     }
 
-    /// Puts the message under way back whole, to begin again.
+    /// Puts each message under way back whole, to begin again.
     pub fn put_back(&mut self)
-        requires { CanGoOn self.old.streams self.old.under_way }
-        ensures back { queue_of self.new ≡ put_back self.old.under_way (queue_of self.old) }
-        ensures ascending { IfSome self.old.under_way (λ _. IsAscending self.old.streams) }
+        ensures back { queue_of self.new ≡ put_back (queue_of self.old) }
+        ensures held { HasHeldStream self.new }
     {
-        match self.under_way {
-            None => {}
-            Some(under_way) => {
-                let place = self.place_of(under_way);
-                self.streams.raise(place, under_way.sent);
-                self.total_amount = self.total_amount.saturating_add(under_way.sent);
-                self.under_way = None;
-            }
+        let mut sent = 0usize;
+        for place in 0..self.streams.len() {
+            let more = self.streams.put_back(place);
+            sent = sent.saturating_add(more);
+        }
+        self.total_amount = self.total_amount.saturating_add(sent);
+        self.held = None;
+    }
+
+    /// May a message begin while others are under way?
+    #[inline(always)]
+    pub fn interleaves(&self) -> bool
+        ensures { result ≡ queue_interleaves (queue_of self.now) }
+    {
+        self.is_interleaved && self.takes_turns
+    }
+
+    /// What is held after a fragment of the stream that isn't the last of its message, which may be abandoned or not.
+    #[inline(always)]
+    pub fn held_by(&self, stream_id: StreamId, is_abandonable: bool) -> Option<StreamId>
+        ensures { (message : Waiting) → is_abandonable ≡ may_be_abandoned message
+            → result ≡ stream_held_after stream_id message (queue_of self.now) }
+    {
+        if is_abandonable || !self.interleaves() {
+            Some(stream_id)
+        } else {
+            None
         }
     }
 
-    /// How many messages of the stream are under way: none or one.
-    pub fn count_under_way(&self, stream_id: StreamId) -> usize
-        ensures { result ≡ count_under_way stream_id.0 self.now.under_way }
+    /// The stream is held no longer, if it was.
+    #[inline(always)]
+    pub fn release(&mut self, stream_id: StreamId)
+        ensures { queue_of self.new ≡ released_queue stream_id.0 (queue_of self.old) }
     {
-        match self.under_way {
-            Some(under_way) if under_way.stream_id.0 == stream_id.0 => 1,
-            Some(_) | None => 0,
+        match self.held {
+            Some(held) if held.0 == stream_id.0 => self.held = None,
+            Some(_) | None => {}
         }
     }
 }

@@ -79,6 +79,7 @@ impl Model for QueuedMessage {
 }
 
 impl QueuedMessage {
+    ghost use Rattle.dcsctp_api.specs.spec.queues.Sending.{may_be_abandoned};
     ghost use Rattle.std.specs.Prelude.{◌≡◌, ◌+◌, ◌-◌, ◌^◌, ◌<◌, ◌≤◌, ◌++◌, min, length, vec_len, IfOk, OnOk, OnErr};
     ghost use Rattle.dcsctp_send_queue.specs.Telling.{contents, AddsFront};
     ghost use Rattle.dcsctp_api.specs.spec.queues.SendEvents.{expiry_events, sent_events};
@@ -91,6 +92,13 @@ impl QueuedMessage {
     ghost use Rattle.dcsctp_api.specs.types.SnapshotItems.{queued_part};
     ghost use Rattle.dcsctp_api.specs.spec.queues.OwnResets.{is_lasting};
     ghost use Rattle.dcsctp_api.specs.spec.queues.QueuedParts.{whole_message, waiting_again};
+
+    /// May it be abandoned: has it a limit of retransmissions or of time?
+    pub fn may_be_abandoned(&self) -> bool
+        ensures { result ≡ may_be_abandoned self.now }
+    {
+        self.max_retransmissions.is_some() || self.expires_at.is_some()
+    }
 
     /// The message that is added at the moment `now`.
     pub fn new(

@@ -1,10 +1,10 @@
-//! Which streams are to be reset, and of which the reset was requested, by number.
+//! Which streams can be handed out to be reset, and of which the reset was requested, by number.
 
 ghost use Rattle.std.specs.Prelude.{◌≡◌, ◌+◌, ◌<◌, ◌≤◌, [], List, true, OnOk};
 ghost use Rattle.std.specs.VecDeque.{deque_len, deque_capacity};
 ghost use Rattle.dcsctp_api.specs.types.declared.ids.StreamId.{StreamId};
 ghost use Rattle.dcsctp_api.specs.types.queues.SendStreams.{is_pausing};
-ghost use Rattle.dcsctp_send_queue.specs.Pausing.{is_pause_handed_out, AreIdsAscending, with_id, with_id_if, IsIdPlace, HoldsId, HoldsPause};
+ghost use Rattle.dcsctp_send_queue.specs.Pausing.{is_pause_handed_out, AreIdsAscending, with_id, with_id_if, IsIdPlace, HoldsId, HoldsPause, MovesPause};
 
 use dcsctp_api::StreamId;
 use dcsctp_api::types::Pause;
@@ -88,8 +88,8 @@ fn is_handed_out(pause: Pause) -> bool
 /// The numbers of the streams that are paused, ascending.
 #[derive(Drop)]
 pub struct PausedIds {
-    /// They are to be reset, and weren't handed out yet.
-    pub pausing: VecDeque<StreamId>,
+    /// They are to be reset, have no message under way, and weren't handed out yet.
+    pub ready: VecDeque<StreamId>,
 
     /// They were handed out to be reset.
     pub handed_out: VecDeque<StreamId>,
@@ -98,46 +98,48 @@ pub struct PausedIds {
 impl PausedIds {
     /// None. Allocates nothing.
     pub fn new(alloc: Global) -> PausedIds
-        ensures pausing { result.pausing.items ≡ [] }
+        ensures ready { result.ready.items ≡ [] }
         ensures handed_out { result.handed_out.items ≡ [] }
     {
         PausedIds {
-            pausing: VecDeque::new(alloc),
+            ready: VecDeque::new(alloc),
             handed_out: VecDeque::new(alloc),
         }
     }
 
     /// Makes room for that many of each. `Err`: an allocation failed.
     pub fn reserve(&mut self, count: usize) -> Result<(), AllocError>
-        ensures pausing { self.new.pausing.items ≡ self.old.pausing.items }
+        ensures ready { self.new.ready.items ≡ self.old.ready.items }
         ensures handed_out { self.new.handed_out.items ≡ self.old.handed_out.items }
-        ensures has_room { deque_capacity self.old.pausing ≤ deque_capacity self.new.pausing }
+        ensures has_room { deque_capacity self.old.ready ≤ deque_capacity self.new.ready }
         ensures has_more { deque_capacity self.old.handed_out
             ≤ deque_capacity self.new.handed_out }
-        ensures room { OnOk result (count ≤ deque_capacity self.new.pausing) }
+        ensures room { OnOk result (count ≤ deque_capacity self.new.ready) }
         ensures more { OnOk result (count ≤ deque_capacity self.new.handed_out) }
     {
-        self.pausing
-            .reserve(count.saturating_sub(self.pausing.len()))?;
+        self.ready.reserve(count.saturating_sub(self.ready.len()))?;
         self.handed_out
             .reserve(count.saturating_sub(self.handed_out.len()))?;
         Ok(())
     }
 
-    /// Moves a stream whose pause changes.
+    /// Moves a stream whose pause changes: as `pause_in_order` says it, from one to the other.
+    #[inline(always)]
     pub fn move_stream(&mut self, id: StreamId, before: Pause, after: Pause)
         requires { HoldsPause self.old id before }
-        ensures pausing { (others : List StreamId)
-            → self.old.pausing.items ≡ with_id_if (is_pausing before) id others
-            → self.new.pausing.items ≡ with_id_if (is_pausing after) id others }
-        ensures handed_out { (others : List StreamId)
-            → self.old.handed_out.items ≡ with_id_if (is_pause_handed_out before) id others
-            → self.new.handed_out.items ≡ with_id_if (is_pause_handed_out after) id others }
-        ensures has_room { deque_capacity self.old.pausing ≤ deque_capacity self.new.pausing }
-        ensures has_more { deque_capacity self.old.handed_out
-            ≤ deque_capacity self.new.handed_out }
+        ensures { MovesPause self.old self.new id before after }
     {
-        move_id(&mut self.pausing, id, is_pausing(before), is_pausing(after));
+        if before != after {
+            self.move_changed(id, before, after);
+        }
+    }
+
+    // The same, in any case.
+    fn move_changed(&mut self, id: StreamId, before: Pause, after: Pause)
+        requires { HoldsPause self.old id before }
+        ensures { MovesPause self.old self.new id before after }
+    {
+        move_id(&mut self.ready, id, is_pausing(before), is_pausing(after));
         move_id(
             &mut self.handed_out,
             id,

@@ -1,7 +1,8 @@
 //! The send queue: which message leaves next, in fragments, and the events about it (RFC 9260, section 6.9,
 //! RFC 8260, section 2.1, RFC 3758, section 3.5 and RFC 6525, section 5.1.2).
 
-ghost use Rattle.std.specs.Prelude.{◌<◌};
+ghost use Rattle.std.specs.Prelude.{◌≡◌, ◌<◌};
+ghost use Rattle.dcsctp_api.specs.spec.queues.SendQueue.{full_payload};
 
 use crate::backlog::Backlog;
 use crate::{DataToSend, QueuedMessage, Streams};
@@ -9,6 +10,17 @@ use dcsctp_api::types::{HandoverReadiness, HandoverTransmission};
 use dcsctp_api::{Events, Message, Options, SendOptions, SocketTime, StreamId};
 use std::alloc::{AllocError, Global};
 use std::marker::Model;
+
+// What precedes the payload in a packet of one I-DATA chunk: the packet's header, and the chunk's (RFC 9260, section
+// 3.1, and RFC 8260, section 2.1).
+const HEADERS: usize = 32;
+
+// The payload of an I-DATA chunk that fills a packet of that size.
+fn full_payload(mtu: usize) -> usize
+    ensures { result ≡ full_payload mtu }
+{
+    mtu.saturating_sub(HEADERS) / 4 * 4
+}
 
 /// The messages that wait to be sent, by stream.
 ///
@@ -27,14 +39,14 @@ impl Drop for SendQueue {
 }
 
 impl Model for SendQueue {
-    ghost use Rattle.dcsctp_api.specs.spec.queues.SendQueue.{SendQueueState, CanGoOn};
-    ghost use Rattle.dcsctp_send_queue.specs.Backlog.{queue_of};
+    ghost use Rattle.dcsctp_api.specs.spec.queues.SendQueue.{SendQueueState};
+    ghost use Rattle.dcsctp_send_queue.specs.Backlog.{queue_of, HasHeldStream};
 
     ghost Value = { SendQueueState };
 
     ghost view = { λ queue. queue_of queue.backlog };
 
-    ghost invariant = { λ queue. CanGoOn queue.backlog.streams queue.backlog.under_way };
+    ghost invariant = { λ queue. HasHeldStream queue.backlog };
 }
 
 impl SendQueue {
@@ -44,7 +56,7 @@ impl SendQueue {
     ghost use Rattle.dcsctp_api.specs.spec.queues.OwnResets.{waits_for_reset, queue_committed, queue_rolled_back, queue_handing_out, ready_streams, handing_out, queue_with_prepared, prepare_events};
     ghost use Rattle.dcsctp_send_queue.specs.Fragment.{HasSize};
     ghost use Rattle.std.specs.Prelude.{◌≡◌, ◌+◌, ◌-◌, ◌<◌, ◌++◌, vec_len, true, IfSome, OnOk, OnErr, IfOk, take, not};
-    ghost use Rattle.dcsctp_api.specs.spec.queues.SendQueue.{empty_queue, IsWellFormed, queue_restarted, has_queued_data, has_waiting_message, stream_changed, used_streams, queue_stream, numbered_for, queued_message, with_added, may_send, with_threshold, with_priority};
+    ghost use Rattle.dcsctp_api.specs.spec.queues.SendQueue.{empty_queue, IsWellFormed, queue_restarted, has_queued_data, has_waiting_message, stream_changed, used_streams, queue_stream, numbered_for, queued_message, with_added, with_threshold, with_priority};
     ghost use Rattle.dcsctp_api.specs.spec.queues.Transfer.{is_none_ready};
     ghost use Rattle.dcsctp_api.specs.types.Setting.{stream_priority, stream_low_threshold};
     ghost use Rattle.dcsctp_api.specs.spec.endpoint.SettingOutcomes.{set_in_queue};
@@ -68,7 +80,7 @@ impl SendQueue {
             backlog: Backlog {
                 alloc,
                 streams: Streams::new(alloc),
-                under_way: None,
+                held: None,
                 total_amount: 0,
                 total_threshold: options.total_buffered_amount_low_threshold,
                 default_priority: options.default_stream_priority,
@@ -77,6 +89,7 @@ impl SendQueue {
                 next_message_id: 0,
                 takes_turns: options.follow_rfc,
                 turns_taken: 0,
+                turn_size: full_payload(options.mtu),
             },
         }
     }
@@ -104,11 +117,15 @@ impl SendQueue {
         Ok(())
     }
 
-    /// Takes the next fragment, of at most `max` payload bytes, of the message under way. Without one, that
-    /// is the oldest message of a stream that isn't paused. Of those with messages, it is the stream of
-    /// greatest priority, and of these the one of least number. With `follow_rfc` streams of equal priority
-    /// take turns: of these it is the one whose last turn is the oldest (RFC 8260, section 3.2). Messages
-    /// there that are too old at the moment `now` to be started are dropped. `None`: no message can be taken.
+    /// Takes the next fragment, of at most `max` payload bytes. A message that is kept whole goes on to its end.
+    /// Otherwise it is of the oldest message of a stream that isn't paused, or has a message under way. Of those
+    /// with messages, it is the stream of greatest priority, and of these the one of least number. With
+    /// `follow_rfc` streams of equal priority take turns: of these it is the one whose last turn is the oldest
+    /// (RFC 8260, sections 3.2 and 3.5). Messages there that are too old at the moment `now` to be started are
+    /// dropped. `None`: no message can be taken.
+    ///
+    /// A message is kept whole if it has a limit of time or of retransmissions, or unless messages are interleaved
+    /// with `follow_rfc`.
     ///
     /// A message that was started is never dropped here. One that fits is sent as one fragment, whose payload
     /// is not copied.
@@ -128,14 +145,14 @@ impl SendQueue {
         ensures front { OnErr result
             (StopsTaking now max self.old (contents events.old) self.new (contents events.new)) }
     {
-        match self.backlog.under_way {
-            Some(under_way) => self.backlog.go_on(events, under_way, max),
+        match self.backlog.held {
+            Some(held) => self.backlog.go_on(events, held, max),
             None => self.backlog.begin_next(events, now, max),
         }
     }
 
-    /// Drops what is left of the message under way, if it is the one of this name and stream, and returns
-    /// whether it was.
+    /// Drops what is left of the stream's message under way, if it is the one of this name, and returns whether
+    /// it was.
     pub fn discard(
         &mut self,
         events: &mut Events,
@@ -176,16 +193,16 @@ impl SendQueue {
     }
 
     /// Says whether messages are numbered as for interleaving (RFC 8260, section 2.1): with it message
-    /// identifiers count, without it stream sequence numbers. If that is a change, the message under way goes
-    /// on under the next number of its stream. No message interrupts it in either case.
+    /// identifiers count, without it stream sequence numbers. If that is a change, each message under way goes
+    /// on under the next number of its stream.
     pub fn enable_message_interleaving(&mut self, enabled: bool)
         ensures { self.new ≡ numbered_for enabled self.old }
     {
         self.backlog.interleave(enabled);
     }
 
-    /// Makes the queue ready for another association: the message that is under way starts again, all
-    /// messages are numbered from 0, and every pause ends. Messages, thresholds and priorities are kept.
+    /// Makes the queue ready for another association: messages that are under way start again, all messages
+    /// are numbered from 0, and every pause ends. Messages, thresholds and priorities are kept.
     pub fn reset(&mut self)
         ensures { self.new ≡ queue_restarted self.old }
     {
@@ -255,7 +272,7 @@ impl SendQueue {
     }
 
     /// Adds what a snapshot that is made at the moment `now` has of it: the numbers and the priorities of all
-    /// streams, and, if they go along, the messages that wait, with the one under way. `Err`: an allocation
+    /// streams, and, if they go along, the messages that wait, with those under way. `Err`: an allocation
     /// failed, and nothing was added.
     pub fn add_to_handover_state(
         &self,
@@ -281,9 +298,9 @@ impl SendQueue {
     }
 
     /// Replaces what waits with what the snapshot has, restored at the moment `now`. A message of which a part
-    /// was sent continues after that part if it is the first of its stream, and no other continues. Thresholds
-    /// stay, as do priorities of streams that the snapshot doesn't name. `Err`: an allocation failed, and only
-    /// some of it is restored.
+    /// was sent continues after that part if it is the first of its stream, and messages are interleaved or no
+    /// stream is held. Thresholds stay, as do priorities of streams that the snapshot doesn't name. `Err`: an
+    /// allocation failed, and only some of it is restored.
     pub fn restore_from_state(
         &mut self,
         now: SocketTime,

@@ -1,6 +1,7 @@
 //! What waits on one stream.
 
 mod numbering;
+mod progress;
 
 use crate::message::QueuedMessage;
 use dcsctp_api::types::{HandoverOutgoingStream, HandoverStreamMessage, Pause, Turn, UnderWay};
@@ -30,16 +31,21 @@ pub struct OutgoingStream {
     // Which turn it had last, counted from 1; 0 if it had none, or if streams don't take turns.
     last_turn: u64,
 
+    // The payload bytes that it sent of its present turn, where messages are interleaved.
+    turn_bytes: usize,
+
     pause: Pause,
+
+    // How far the oldest message has come, if it was started. It isn't fully sent.
+    under_way: Option<UnderWay>,
 
     // The oldest first. The message that is under way stays at the front until it is fully sent.
     messages: VecDeque<QueuedMessage>,
 }
 
 impl Model for OutgoingStream {
-    ghost use Rattle.std.specs.Prelude.{◌<◌, ℕ, length};
-    ghost use Rattle.std.specs.List.{AllByRecursion};
-    ghost use Rattle.dcsctp_api.specs.types.queues.SendStreams.{Waiting, Stream};
+    ghost use Rattle.dcsctp_api.specs.types.queues.SendStreams.{Stream};
+    ghost use Rattle.dcsctp_send_queue.specs.Sound.{IsStreamSound};
 
     ghost Value = { Stream };
 
@@ -52,22 +58,24 @@ impl Model for OutgoingStream {
       next_mid = stream.next_mid;
       next_unordered_mid = stream.next_unordered_mid;
       last_turn = stream.last_turn;
+      turn_bytes = stream.turn_bytes;
       pause = stream.pause;
+      under_way = stream.under_way;
       messages = stream.messages.items;
     } };
 
-    ghost invariant = { λ stream. AllByRecursion (λ (message : Waiting). 0 < length message.payload) stream.messages.items };
+    ghost invariant = { λ stream. IsStreamSound stream.id.0 stream.messages.items stream.under_way };
 }
 
 impl OutgoingStream {
-    ghost use Rattle.std.specs.Prelude.{◌≡◌, ◌-◌, ◌^◌, ◌++◌, min, drop, OnOk, OnErr, if◌then◌else◌};
+    ghost use Rattle.std.specs.Prelude.{◌≡◌, ◌≤◌, ◌-◌, ◌^◌, ◌||◌, ◌++◌, is_some, min, drop, OnOk, OnErr};
     ghost use Rattle.dcsctp_send_queue.specs.Telling.{contents, AddsFront};
     ghost use Rattle.dcsctp_api.specs.spec.queues.SendEvents.{expiries};
-    ghost use Rattle.dcsctp_api.specs.types.queues.SendStreams.{payload_size, unused_stream, is_pausing, front_of, with_message, without_front, paused_stream, resumed_stream, handed_out, renumbered_stream, amount_raised, committed_stream, rolled_back, turn_of};
+    ghost use Rattle.dcsctp_api.specs.types.queues.SendStreams.{payload_size, unused_stream, front_of, with_message, without_front, paused_stream, resumed_stream, handed_out, renumbered_stream, amount_raised, committed_stream, rolled_back, may_send_on, turn_of};
     ghost use Rattle.std.specs.Option.{option_copied};
-    ghost use Rattle.dcsctp_api.specs.spec.queues.SendQueue.{HaveBytes, has_live};
+    ghost use Rattle.dcsctp_api.specs.spec.queues.SendQueue.{HaveBytes, CanGoOn, has_live};
     ghost use Rattle.std.specs.List.{list_any};
-    ghost use Rattle.dcsctp_api.specs.spec.queues.OwnResets.{is_lasting};
+    ghost use Rattle.dcsctp_api.specs.spec.queues.OwnResets.{is_lasting, count_under_way};
     ghost use Rattle.dcsctp_api.specs.spec.queues.Readiness.{is_paused};
     ghost use Rattle.std.specs.Prelude.{map, IfOk};
     ghost use Rattle.dcsctp_api.specs.types.SnapshotItems.{queued_part};
@@ -86,7 +94,9 @@ impl OutgoingStream {
             next_mid: 0,
             next_unordered_mid: 0,
             last_turn: 0,
+            turn_bytes: 0,
             pause: Pause::Open,
+            under_way: None,
             messages: VecDeque::new(alloc),
         }
     }
@@ -136,18 +146,15 @@ impl OutgoingStream {
         }
     }
 
-    /// One if it is to be reset and wasn't handed out yet, else none.
-    pub fn count_pausing(&self) -> usize
-        ensures { result ≡ if is_pausing self.now.pause then 1 else 0 }
+    /// Is there a message at the moment `now` that may be sent: one under way, or one whose lifetime isn't over?
+    pub fn has_live(&self, now: SocketTime) -> bool
+        ensures { result ≡ (is_some self.now.under_way || has_live now self.now.messages) }
     {
-        match self.pause {
-            Pause::Pausing => 1,
-            Pause::Open | Pause::HandedOut => 0,
-        }
+        self.under_way.is_some() || self.has_unexpired(now)
     }
 
-    /// Is there a message at the moment `now` whose lifetime isn't over?
-    pub fn has_live(&self, now: SocketTime) -> bool
+    // Is there a message at the moment `now` whose lifetime isn't over?
+    fn has_unexpired(&self, now: SocketTime) -> bool
         ensures { result ≡ has_live now self.now.messages }
     {
         self.messages.iter().any(|message| !message.is_expired(now))
@@ -160,23 +167,30 @@ impl OutgoingStream {
         self.messages.iter().any(|message| message.is_lasting())
     }
 
-    /// The stream's turn; none if it is paused or has no message.
+    /// The stream's turn; none if it has no message, or is paused and none is under way.
     pub fn turn(&self) -> Option<Turn>
         ensures turn { result ≡ turn_of self.now }
         ensures bytes { HaveBytes self.now }
+        ensures can { CanGoOn self.now }
     {
+        let turn = Turn {
+            priority: self.priority,
+            last_turn: self.last_turn,
+            stream_id: self.id,
+        };
+        if self.may_send() { Some(turn) } else { None }
+    }
+
+    // Has it a message, and is it open or was that one started?
+    fn may_send(&self) -> bool
+        ensures { result ≡ may_send_on self.now.under_way self.now.pause self.now.messages }
+    {
+        if self.messages.is_empty() {
+            return false;
+        }
         match self.pause {
-            Pause::Open => {
-                if self.messages.is_empty() {
-                    return None;
-                }
-                Some(Turn {
-                    priority: self.priority,
-                    last_turn: self.last_turn,
-                    stream_id: self.id,
-                })
-            }
-            Pause::Pausing | Pause::HandedOut => None,
+            Pause::Open => true,
+            Pause::Pausing | Pause::HandedOut => self.under_way.is_some(),
         }
     }
 
@@ -277,8 +291,10 @@ impl OutgoingStream {
         ensures { self.new ≡ emptied_stream self.old }
     {
         self.messages.clear();
+        self.under_way = None;
         self.amount = 0;
         self.last_turn = 0;
+        self.turn_bytes = 0;
         self.begin_anew();
     }
 
@@ -299,6 +315,7 @@ impl OutgoingStream {
         ensures result { result ≡ front_of self.old.messages }
     {
         let message = self.messages.pop_front();
+        self.under_way = None;
         self.give_room_back();
         message
     }
@@ -316,6 +333,7 @@ impl OutgoingStream {
 
     /// Keeps only that many of its messages, the oldest, and pauses it.
     pub fn pause(&mut self, kept: usize)
+        requires { count_under_way self.old ≤ kept }
         ensures { self.new ≡ paused_stream kept self.old }
     {
         self.messages.truncate(kept);

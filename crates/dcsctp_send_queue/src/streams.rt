@@ -13,7 +13,7 @@ use std::alloc::{AllocError, Global};
 use std::collections::VecDeque;
 use std::marker::Model;
 
-/// All streams that were used, in ascending order, with the turns of those that may begin a message.
+/// All streams that were used, in ascending order, with the turns of those that may send.
 #[derive(Drop)]
 pub struct Streams {
     items: StreamList,
@@ -21,7 +21,7 @@ pub struct Streams {
     // In order, the last turn first. There is room for one of each stream.
     turns: VecDeque<Turn>,
 
-    // Those that are paused. There is room for all streams.
+    // Those that can be handed out to be reset, and those that were. There is room for all streams.
     paused: PausedIds,
 }
 
@@ -40,9 +40,9 @@ impl Model for Streams {
 
 impl Streams {
     ghost use Rattle.std.specs.List.{list_any, AllByRecursion};
-    ghost use Rattle.std.specs.Prelude.{◌≡◌, ◌-◌, ◌<◌, ◌&&◌, [], length, is_some, slice_set, insert, OnOk, OnErr, IfSome, IfNone};
-    ghost use Rattle.dcsctp_api.specs.types.queues.SendStreams.{front_of, with_message, without_front, amount_raised, stream_counted, served_stream, stream_at, turn_of, turns_of, IsNext, IsAscending};
-    ghost use Rattle.dcsctp_api.specs.spec.queues.SendQueue.{HaveBytes, has_live};
+    ghost use Rattle.std.specs.Prelude.{◌≡◌, ◌-◌, ◌<◌, ◌&&◌, ◌||◌, [], length, is_some, slice_set, insert, OnOk, OnErr, IfSome, IfNone};
+    ghost use Rattle.dcsctp_api.specs.types.queues.SendStreams.{front_of, with_message, without_front, stream_counted, stream_with_progress, stream_put_back, progress_size, served_stream, fills_turn, stream_with_turn_bytes, stream_at, turn_of, turns_of, IsNext, IsAscending};
+    ghost use Rattle.dcsctp_api.specs.spec.queues.SendQueue.{HaveBytes, CanGoOn, IsUnderWay, has_live};
     ghost use Rattle.dcsctp_api.specs.spec.queues.OwnResets.{is_lasting};
     ghost use Rattle.dcsctp_api.specs.spec.queues.Readiness.{has_messages, is_paused};
     ghost use Rattle.dcsctp_send_queue.specs.Ranking.{IsFound};
@@ -72,6 +72,7 @@ impl Streams {
         ensures found { IsFound self.now id.0 result }
         ensures ascending { IsAscending self.now }
         ensures bytes { AllByRecursion HaveBytes self.now }
+        ensures can { AllByRecursion CanGoOn self.now }
     {
         let mut low = 0;
         let mut high = self.items.len();
@@ -108,7 +109,7 @@ impl Streams {
         self.turns.reserve(room.saturating_sub(self.turns.len()))?;
         self.paused.reserve(room)?;
         let id = stream.id();
-        let pause = stream.pause_state();
+        let pause = stream.pause_in_order();
         let turn = stream.turn();
         self.items.insert(place, stream)?;
         move_turn(&mut self.turns, None, turn);
@@ -116,7 +117,7 @@ impl Streams {
         Ok(())
     }
 
-    /// The place of the stream whose turn it is; none if no stream may begin a message.
+    /// The place of the stream whose turn it is; none if no stream may send.
     pub fn next_place(&self) -> Option<usize>
         ensures some { IfSome result (IsNext self.now) }
         ensures none { IfNone result (turns_of self.now ≡ []) }
@@ -128,18 +129,18 @@ impl Streams {
         }
     }
 
-    /// May a stream begin a message?
+    /// May a stream send?
     pub fn has_turn(&self) -> bool
         ensures { result ≡ list_any (λ stream. is_some (turn_of stream)) self.now }
     {
         !self.turns.is_empty()
     }
 
-    /// Does a message wait at the moment `now` that may be begun?
+    /// Is a message under way, or does one wait at the moment `now` that may be begun?
     pub fn waits_at(&self, now: SocketTime) -> bool
         ensures { result
-            ≡ list_any (λ stream. is_some (turn_of stream) && has_live now stream.messages)
-            self.now }
+            ≡ list_any (λ stream. is_some (turn_of stream)
+            && (is_some stream.under_way || has_live now stream.messages)) self.now }
     {
         self.items
             .boxes()
@@ -174,6 +175,7 @@ impl Streams {
         ensures paused { result ≡ list_any is_paused self.now }
         ensures ascending { IsAscending self.now }
         ensures bytes { AllByRecursion HaveBytes self.now }
+        ensures can { AllByRecursion CanGoOn self.now }
     {
         self.items.boxes().iter().any(|stream| stream.is_paused())
     }
@@ -225,10 +227,14 @@ impl Streams {
         ensures result { result ≡ front_of (stream_at self.old place).messages }
     {
         let stream = self.items.at_mut(place);
+        let id = stream.id();
         let before = stream.turn();
+        let pause_before = stream.pause_in_order();
         let message = stream.pop();
         let after = stream.turn();
+        let pause_after = stream.pause_in_order();
         move_turn(&mut self.turns, before, after);
+        self.paused.move_stream(id, pause_before, pause_after);
         message
     }
 
@@ -281,14 +287,43 @@ impl Streams {
         stream.reduce(size);
     }
 
-    /// Adds that much to the stream's amount, which stops at the greatest `usize`.
-    pub fn raise(&mut self, place: usize, size: usize)
-        requires { place < length self.old }
+    /// The oldest message of the stream has come so far.
+    #[inline(always)]
+    pub fn go_on(&mut self, place: usize, under_way: UnderWay)
+        requires place { place < length self.old }
+        requires can { IsUnderWay (stream_at self.old place).id (stream_at self.old place).messages
+            under_way }
         ensures { self.new
-            ≡ slice_set self.old place (amount_raised size (stream_at self.old place)) }
+            ≡ slice_set self.old place (stream_with_progress under_way (stream_at self.old place)) }
     {
         let stream = self.items.at_mut(place);
-        stream.raise(size);
+        let id = stream.id();
+        let before = stream.turn();
+        let pause_before = stream.pause_in_order();
+        stream.go_on(under_way);
+        let after = stream.turn();
+        let pause_after = stream.pause_in_order();
+        move_turn(&mut self.turns, before, after);
+        self.paused.move_stream(id, pause_before, pause_after);
+    }
+
+    /// Puts the stream's message under way back, to begin again. How many of its bytes were sent.
+    pub fn put_back(&mut self, place: usize) -> usize
+        requires { place < length self.old }
+        ensures left { self.new
+            ≡ slice_set self.old place (stream_put_back (stream_at self.old place)) }
+        ensures sent { result ≡ progress_size (stream_at self.old place).under_way }
+    {
+        let stream = self.items.at_mut(place);
+        let id = stream.id();
+        let before = stream.turn();
+        let pause_before = stream.pause_in_order();
+        let sent = stream.put_back();
+        let after = stream.turn();
+        let pause_after = stream.pause_in_order();
+        move_turn(&mut self.turns, before, after);
+        self.paused.move_stream(id, pause_before, pause_after);
+        sent
     }
 
     /// Counts a message of the stream that is begun.
@@ -300,6 +335,19 @@ impl Streams {
     {
         let stream = self.items.at_mut(place);
         stream.count_begun(is_interleaved, is_unordered);
+    }
+
+    /// The stream sends that many bytes of its turn, which has `turn_size` bytes. Is its turn over?
+    #[inline(always)]
+    pub fn use_turn(&mut self, place: usize, turn_size: usize, size: usize) -> bool
+        requires { place < length self.old }
+        ensures left { self.new
+            ≡ slice_set self.old place
+            (stream_with_turn_bytes turn_size size (stream_at self.old place)) }
+        ensures over { result ≡ fills_turn turn_size size (stream_at self.old place) }
+    {
+        let stream = self.items.at_mut(place);
+        stream.use_turn(turn_size, size)
     }
 
     /// The stream has this turn.

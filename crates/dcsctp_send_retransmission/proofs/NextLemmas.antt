@@ -5,7 +5,7 @@ use Rattle.dcsctp_api.specs.spec.queues.SendQueue.{SendQueueState}
 use Rattle.dcsctp_api.specs.spec.queues.Sending.{Drops, none, more, TakesNone}
 use Rattle.dcsctp_api.specs.spec.queues.NextItem.{HasNone}
 
-idle_after : (now : ℕ) (old queue : SendQueueState) (events : List (Event (List ℕ))) → Drops now old events queue → old.under_way ≡ None → queue.under_way ≡ None
+idle_after : (now : ℕ) (old queue : SendQueueState) (events : List (Event (List ℕ))) → Drops now old events queue → old.held ≡ None → queue.held ≡ None
 idle_after now old queue [] none idle = idle
 idle_after now old queue events (more es before place message drops next front expired) idle = idle_after now old before es drops idle
 

@@ -1,13 +1,11 @@
 -- A new item (RFC 9260, section 6.1).
-use Rattle.std.specs.Prelude.{Result, Ok, Err, ◌≡◌, ◌⊎◌, ℕ, Bool, Option, None, Some, List, [], ◌∷◌, ◌++◌}
+use Rattle.std.specs.Prelude.{Result, Ok, Err, ◌≡◌, ◌⊎◌, ℕ, Bool, Option, None, Some, [], ◌∷◌, ◌++◌}
 use Rattle.std.specs.declared.alloc.AllocError.{AllocError}
-use Rattle.dcsctp_api.specs.spec.endpoint.Event.{Event}
-use Rattle.dcsctp_api.specs.spec.queues.SendQueue.{SendQueueState}
 use Rattle.dcsctp_api.specs.spec.queues.Sending.{TakesFragment, TakesNone}
 use Rattle.dcsctp_send_queue.specs.Calls.{StopsTaking}
 use Rattle.dcsctp_api.specs.spec.queues.ItemMessages.{ItemStage}
 use Rattle.dcsctp_api.specs.spec.queues.Items.{Item}
-use Rattle.dcsctp_api.specs.spec.queues.Outstanding.{OutstandingState, next_tsn}
+use Rattle.dcsctp_api.specs.spec.queues.Outstanding.{next_tsn}
 use Rattle.dcsctp_api.specs.spec.queues.Filling.{IsSentFirstNow}
 
 -- The next TSN goes to a new item, with what the send queue gives.

@@ -1,9 +1,10 @@
 -- A whole snapshot: what is written is read back, and what is read was written so.
-use Rattle.std.proofs.Common.{◌≡◌, ℕ, ◌^◌, ◌<◌, ◌++◌, Bool, true, false, cond, eqb, List, [], length, Some, None, refl, ap, ◌∙◌, subst, append_assoc, lit<, Result, Ok, Err}
+use Rattle.std.proofs.Common.{◌≡◌, ℕ, ◌^◌, ◌<◌, ◌++◌, Bool, true, false, cond, eqb, List, [], length, Some, None, refl, ap, ◌∙◌, subst, append_assoc, arith, lit<, Result, Ok, Err}
 use Rattle.std.specs.Global.{Vec}
-use Rattle.std.specs.Prelude.{IfOk, ◌==◌, ◌&&◌}
+use Rattle.std.specs.Prelude.{IfOk, nat_lt, ◌==◌, ◌&&◌}
 use Rattle.std.specs.Int.{w16, w32, w64}
 use Rattle.std.proofs.lemmas.Bool.{eqb-true, and_parts}
+use Rattle.std.proofs.lemmas.Bool.Decides.{nat_tests}
 use Rattle.std.proofs.lemmas.Option.{cond_some}
 use Rattle.std.proofs.lemmas.List.{append-nil, nil_from_length}
 use Rattle.dcsctp_types.specs.declared.snapshot.HandoverSocketState.{HandoverSocketState}
@@ -13,32 +14,38 @@ use Rattle.dcsctp_snapshot_bytes.specs.declared.state.Tags.{Tags}
 use Rattle.dcsctp_snapshot_bytes.specs.Fields.{◌>>=◌, number_bytes, flag_bytes}
 use Rattle.dcsctp_snapshot_bytes.specs.Fits.{FitsSnapshot}
 use Rattle.dcsctp_snapshot_bytes.specs.Laws.{AreBytes, SnapshotReadsBack, HasOneSpelling}
-use Rattle.dcsctp_snapshot_bytes.specs.Spelling.{snapshot_magic, version, is_connected, capabilities_bytes, send_bytes, received_bytes, snapshot_bytes}
-use Rattle.dcsctp_snapshot_bytes.specs.Reading.{leading_tags, state_of, leading_content, after_header, read_snapshot}
+use Rattle.dcsctp_snapshot_bytes.specs.Spelling.{snapshot_magic, count_begun_parts, version_of, is_connected, capabilities_bytes, send_bytes, received_bytes, snapshot_bytes}
+use Rattle.dcsctp_snapshot_bytes.specs.Reading.{leading_tags, state_of, leading_content, after_magic, read_snapshot}
 use Rattle.dcsctp_snapshot_bytes.proofs.FieldLaws.{Took, bind_some, step, step_by, some_is, field16, field32, field64}
 use Rattle.dcsctp_snapshot_bytes.proofs.ValueLaws.{flag_field}
 use Rattle.dcsctp_snapshot_bytes.proofs.PartLaws.{send_field, received_field, capabilities_field}
 
 -- ---- the header
 
-header_again : (rest : List ℕ) → after_header (number_bytes w32 snapshot_magic ++ (number_bytes w16 version ++ rest)) ≡ Some rest
-unfolding after_header
-header_again rest = rw (field32.again snapshot_magic (number_bytes w16 version ++ rest) (lit< tt), field16.again version rest (lit< tt)) refl
+header_again : (version : ℕ) (rest : List ℕ) → version < 2 ^ 16 → after_magic (number_bytes w32 snapshot_magic ++ (number_bytes w16 version ++ rest)) ≡ Some (version, rest)
+unfolding after_magic
+header_again version rest fits = rw (field32.again snapshot_magic (number_bytes w16 version ++ rest) (lit< tt), field16.again version rest fits) refl
 
-record TookHeader (bytes rest : List ℕ) : Type 0 where
+record TookHeader (bytes : List ℕ) (version : ℕ) (rest : List ℕ) : Type 0 where
   parts : bytes ≡ number_bytes w32 snapshot_magic ++ (number_bytes w16 version ++ rest)
   rest_fits : AreBytes rest
 
-header_takes : (bytes rest : List ℕ) → AreBytes bytes → after_header bytes ≡ Some rest → TookHeader bytes rest
-unfolding after_header
-header_takes bytes rest fits e =
+header_takes : (bytes : List ℕ) (header : ℕ × List ℕ) → AreBytes bytes → after_magic bytes ≡ Some header → TookHeader bytes header.0 header.1
+unfolding after_magic
+header_takes bytes header fits e =
     step field32 _ bytes _ fits e (λ first r1 p1 f1 b1 e1.
     step field16 _ r1 _ b1 e1 (λ second r2 p2 f2 b2 e2.
-    let chosen = cond_some (first == snapshot_magic && second == version) r2 rest e2 in
-    let same = and_parts (first == snapshot_magic) (second == version) chosen.0 in
-    let first-is : first ≡ snapshot_magic = eqb-true _ _ same.0 in
-    let second-is : second ≡ version = eqb-true _ _ same.1 in
-    subst (TookHeader bytes) chosen.1 (record { parts = rw (p1, p2, first-is, second-is) refl; rest_fits = b2 })))
+    let chosen = cond_some (first == snapshot_magic) (second, r2) header e2 in
+    let first-is : first ≡ snapshot_magic = eqb-true _ _ chosen.0 in
+    subst (λ (x : ℕ × List ℕ). TookHeader bytes x.0 x.1) chosen.1 (record { parts = rw (p1, p2, first-is) refl; rest_fits = b2 })))
+
+-- a version is 1 or 2
+version_fits : (state : Snapshot) → version_of state < 2 ^ 16
+version_fits state = go (nat_lt 1 (count_begun_parts state.tx.queued_messages))
+  where
+    go : (several : Bool) → cond several 2 1 < 2 ^ 16
+    go false = lit< tt
+    go true = lit< tt
 
 -- ---- what follows the header
 
@@ -121,21 +128,29 @@ content_takes bytes state rest fits e =
 
 -- ---- the whole
 
+same_version : (version : ℕ) → eqb version version ≡ true
+same_version version = grind (arith, nat_tests)
+
 pub reads_back : SnapshotReadsBack
 unfolding read_snapshot snapshot_bytes
 reads_back state fits =
-    let whole : snapshot_bytes state ≡ number_bytes w32 snapshot_magic ++ (number_bytes w16 version ++ (content_bytes state ++ [])) = simp (append_assoc, append-nil) in
-    ap read_snapshot whole ∙ rw (header_again (content_bytes state ++ []), content_again state [] fits) refl
+    let whole : snapshot_bytes state ≡ number_bytes w32 snapshot_magic ++ (number_bytes w16 (version_of state) ++ (content_bytes state ++ [])) = simp (append_assoc, append-nil) in
+    let same : eqb (version_of state) (version_of state) ≡ true = same_version (version_of state) in
+    ap read_snapshot whole ∙ rw (header_again (version_of state) (content_bytes state ++ []) (version_fits state), content_again state [] fits, same) refl
 
 pub has_one_spelling : HasOneSpelling
 unfolding read_snapshot snapshot_bytes
 has_one_spelling bytes state fits e =
-    let header = bind_some (after_header bytes) (λ rest. leading_content rest >>= λ content. cond (eqb (length content.1) 0) (Some content.0) None) state e in
+    let header =
+    bind_some (after_magic bytes)
+    (λ header. leading_content header.1 >>= λ content. cond (eqb (length content.1) 0 && eqb header.0 (version_of content.0)) (Some content.0) None) state e in
     let took = header_takes bytes header.0 fits header.1 in
-    step_by content_takes _ header.0 _ took.rest_fits header.2 (λ content rest p1 f1 b1 e1.
-    let chosen = cond_some (eqb (length rest) 0) content state e1 in
-    let nothing : rest ≡ [] = nil_from_length rest (eqb-true _ _ chosen.0) in
-    let whole : bytes ≡ number_bytes w32 snapshot_magic ++ (number_bytes w16 version ++ (content_bytes content ++ [])) = rw (took.parts, p1, nothing) refl in
+    step_by content_takes _ header.0.1 _ took.rest_fits header.2 (λ content rest p1 f1 b1 e1.
+    let chosen = cond_some (eqb (length rest) 0 && eqb header.0.0 (version_of content)) content state e1 in
+    let both = and_parts (eqb (length rest) 0) (eqb header.0.0 (version_of content)) chosen.0 in
+    let nothing : rest ≡ [] = nil_from_length rest (eqb-true _ _ both.0) in
+    let version : header.0.0 ≡ version_of content = eqb-true _ _ both.1 in
+    let whole : bytes ≡ number_bytes w32 snapshot_magic ++ (number_bytes w16 (version_of content) ++ (content_bytes content ++ [])) = rw (took.parts, p1, nothing, version) refl in
     let spelled : snapshot_bytes content ≡ bytes = rw whole (simp (append_assoc, append-nil)) in
     subst (λ (x : Snapshot). snapshot_bytes x ≡ bytes) chosen.1 spelled)
 

@@ -14,7 +14,7 @@ use Rattle.dcsctp_snapshot_bytes.specs.Fields.{number_bytes, number_of_width, si
 use Rattle.dcsctp_snapshot_bytes.specs.Seal.{fingerprint, bytes_with_check}
 use Rattle.dcsctp_snapshot_bytes.specs.Spelling.{snapshot_magic, queued_part_bytes, outgoing_bytes, ordered_bytes, send_bytes, received_bytes, capabilities_bytes, snapshot_bytes}
 use Rattle.dcsctp_snapshot_bytes.specs.ReadingItems.{leading_queued_part, leading_limits, leading_progress, leading_ordered_stream}
-use Rattle.dcsctp_snapshot_bytes.specs.Reading.{leading_windows, leading_send_progress, leading_send_part, leading_receive_numbers, leading_receive_part, leading_capabilities, leading_tags, leading_content, after_header, read_snapshot}
+use Rattle.dcsctp_snapshot_bytes.specs.Reading.{leading_windows, leading_send_progress, leading_send_part, leading_receive_numbers, leading_receive_part, leading_capabilities, leading_tags, leading_content, after_magic, read_snapshot}
 
 -- ---- fields
 
@@ -104,15 +104,16 @@ unfolding snapshot_bytes capabilities_bytes send_bytes received_bytes element_li
 empty_is_spelled = refl
 
 empty_is_read : read_snapshot empty_bytes ≡ Some empty_snapshot
-unfolding read_snapshot after_header leading_content leading_tags leading_capabilities leading_send_part leading_windows leading_send_progress leading_receive_part leading_receive_numbers leading_list leading_elements number_of_width leading_flag empty_bytes
+unfolding read_snapshot after_magic leading_content leading_tags leading_capabilities leading_send_part leading_windows leading_send_progress leading_receive_part leading_receive_numbers leading_list leading_elements number_of_width leading_flag empty_bytes
 empty_is_read = refl
 
+-- Version 2 is of several messages under way.
 other_version_is_refused : read_snapshot (0x64 ∷ 0x63 ∷ 0x53 ∷ 0x6e ∷ 0 ∷ 2 ∷ replicate 126 0) ≡ None
-unfolding read_snapshot after_header number_of_width
+unfolding read_snapshot after_magic leading_content leading_tags leading_capabilities leading_send_part leading_windows leading_send_progress leading_receive_part leading_receive_numbers leading_list leading_elements number_of_width leading_flag
 other_version_is_refused = refl
 
 trailing_byte_is_refused : read_snapshot (empty_bytes ++ 0 ∷ []) ≡ None
-unfolding read_snapshot after_header leading_content leading_tags leading_capabilities leading_send_part leading_windows leading_send_progress leading_receive_part leading_receive_numbers leading_list leading_elements number_of_width leading_flag empty_bytes
+unfolding read_snapshot after_magic leading_content leading_tags leading_capabilities leading_send_part leading_windows leading_send_progress leading_receive_part leading_receive_numbers leading_list leading_elements number_of_width leading_flag empty_bytes
 trailing_byte_is_refused = refl
 
 -- ---- the seal

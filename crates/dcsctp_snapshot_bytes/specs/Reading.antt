@@ -10,7 +10,7 @@ use Rattle.dcsctp_snapshot_bytes.specs.declared.transmission.SendProgress.{SendP
 use Rattle.dcsctp_snapshot_bytes.specs.declared.receive.ReceiveNumbers.{ReceiveNumbers}
 use Rattle.dcsctp_snapshot_bytes.specs.declared.state.Tags.{Tags}
 use Rattle.dcsctp_snapshot_bytes.specs.Fields.{◌>>=◌, number_of_width, leading_flag, leading_list}
-use Rattle.dcsctp_snapshot_bytes.specs.Spelling.{snapshot_magic, version}
+use Rattle.dcsctp_snapshot_bytes.specs.Spelling.{snapshot_magic, version_of}
 use Rattle.dcsctp_snapshot_bytes.specs.ReadingItems.{leading_queued_part, leading_outstanding_part, leading_outgoing_stream, leading_ordered_stream, leading_unordered_stream}
 
 -- ---- sending
@@ -168,16 +168,16 @@ leading_content bytes = do
     rx.1,
   )
 
--- what follows the magic and this version
-unfoldable pub after_header : List ℕ → Option (List ℕ)
-after_header bytes = do
+-- the version that follows the magic, and what follows that
+unfoldable pub after_magic : List ℕ → Option (ℕ × List ℕ)
+after_magic bytes = do
   first ← number_of_width w32 bytes
   second ← number_of_width w16 first.1
-  if first.0 == snapshot_magic && second.0 == version then Some second.1 else None
+  if first.0 == snapshot_magic then Some (second.0, second.1) else None
 
--- The snapshot that the bytes are, all of them.
+-- The snapshot that the bytes are, all of them, in its version.
 unfoldable pub read_snapshot : List ℕ → Option Snapshot
 read_snapshot bytes = do
-  rest ← after_header bytes
-  content ← leading_content rest
-  if length content.1 == 0 then Some content.0 else None
+  header ← after_magic bytes
+  content ← leading_content header.1
+  if length content.1 == 0 && header.0 == version_of content.0 then Some content.0 else None

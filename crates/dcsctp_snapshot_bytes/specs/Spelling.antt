@@ -1,5 +1,6 @@
 -- A snapshot as bytes. A comment after each field says how many bytes it has.
-use Rattle.std.specs.Prelude.{ℕ, Bool, true, false, List, ◌++◌}
+use Rattle.std.specs.Prelude.{ℕ, nat_lt, Bool, true, false, List, ◌++◌, if◌then◌else◌}
+use Rattle.std.specs.List.{count_by}
 use Rattle.std.specs.Int.{w16, w32, w64}
 use Rattle.dcsctp_types.specs.declared.snapshot.HandoverSocketState.{HandoverSocketState}
 use Rattle.dcsctp_types.specs.declared.snapshot.HandoverSocketState.TheVariants.{Closed, Connected}
@@ -15,9 +16,17 @@ use Rattle.dcsctp_snapshot_bytes.specs.Fields.{number_bytes, signed_bytes, flag_
 abbrev pub snapshot_magic : ℕ
 snapshot_magic = 0x6463536e
 
--- the version of the format
-abbrev pub version : ℕ
-version = 1
+-- was a part of the message sent?
+abbrev pub is_part_begun : QueuedPart → Bool
+is_part_begun message = nat_lt 0 message.remaining_offset
+
+-- how many messages are under way
+abbrev pub count_begun_parts : List QueuedPart → ℕ
+count_begun_parts messages = count_by is_part_begun messages
+
+-- The version of the format: 2 where several messages are under way, all of which a reader of version 1 but one would begin again.
+abbrev pub version_of : Snapshot → ℕ
+version_of state = if nat_lt 1 (count_begun_parts state.tx.queued_messages) then 2 else 1
 
 -- ---- elements of lists
 
@@ -132,7 +141,7 @@ is_connected Connected = true
 unfoldable pub snapshot_bytes : Snapshot → List ℕ
 snapshot_bytes state =
     number_bytes w32 snapshot_magic  -- 4
-    ++ number_bytes w16 version  -- 2
+    ++ number_bytes w16 (version_of state)  -- 2
     ++ flag_bytes (is_connected state.socket_state)  -- 1
     ++ number_bytes w32 state.my_verification_tag  -- 4
     ++ number_bytes w32 state.my_initial_tsn  -- 4

@@ -1,10 +1,11 @@
 //! A whole snapshot as bytes.
 
-ghost use Rattle.std.specs.Prelude.{◌≡◌, ◌++◌, OnOk, IfOk, IfSome, MatchResult, Some};
+ghost use Rattle.std.specs.Prelude.{◌≡◌, ◌++◌, nat_lt, map, OnOk, IfOk, IfSome, MatchResult, Some};
 ghost use Rattle.std.specs.Option.{option_map};
 ghost use Rattle.dcsctp_types.specs.Snapshot.{snapshot};
-ghost use Rattle.dcsctp_snapshot_bytes.specs.Spelling.{capabilities_bytes, snapshot_bytes};
-ghost use Rattle.dcsctp_snapshot_bytes.specs.Reading.{leading_capabilities, leading_tags, leading_content, after_header, read_snapshot};
+ghost use Rattle.dcsctp_types.specs.SnapshotItems.{queued_part};
+ghost use Rattle.dcsctp_snapshot_bytes.specs.Spelling.{capabilities_bytes, count_begun_parts, version_of, snapshot_bytes};
+ghost use Rattle.dcsctp_snapshot_bytes.specs.Reading.{leading_capabilities, leading_tags, leading_content, after_magic, read_snapshot};
 ghost use Rattle.dcsctp_snapshot_bytes.specs.Fits.{FitsCapabilities, FitsSnapshot};
 ghost use Rattle.dcsctp_snapshot_bytes.specs.Gives.{FailsReading, ReadsValue, ReadsAll};
 
@@ -12,7 +13,9 @@ use crate::reader::{ReadError, Reader};
 use crate::receive::{read_receive, write_receive};
 use crate::transmission::{read_transmission, write_transmission};
 use crate::writer::{write_flag, write_u16, write_u32, write_u64};
-use dcsctp_types::{HandoverCapabilities, HandoverSocketState, SocketHandoverState};
+use dcsctp_types::{
+    HandoverCapabilities, HandoverSocketState, HandoverStreamMessage, SocketHandoverState,
+};
 use std::alloc::{AllocError, Global};
 
 /// `dcSn`, with which each snapshot begins.
@@ -20,6 +23,31 @@ const MAGIC: u32 = 0x6463_536e;
 
 /// The version of the format, which follows the magic.
 const VERSION: u16 = 1;
+
+/// The version where several messages are under way. A reader of the other one would begin all but one again.
+const VERSION_OF_SEVERAL: u16 = 2;
+
+// Are several of the messages under way?
+fn are_several_begun(messages: &[HandoverStreamMessage]) -> bool
+    ensures { result ≡ nat_lt 1 (count_begun_parts (map queued_part messages.now)) }
+{
+    messages
+        .iter()
+        .filter(|message| 0 < message.remaining_offset)
+        .nth(1)
+        .is_some()
+}
+
+// The version of a snapshot.
+fn version_of(state: &SocketHandoverState) -> u16
+    ensures { result ≡ version_of (snapshot state.now) }
+{
+    if are_several_begun(state.tx.queued_messages.as_slice()) {
+        VERSION_OF_SEVERAL
+    } else {
+        VERSION
+    }
+}
 
 // The tags of an association.
 #[derive(Clone, Copy)]
@@ -56,7 +84,7 @@ fn write_state(alloc: Global, state: &SocketHandoverState) -> Result<Vec<u8>, Al
 {
     let mut out = Vec::new(alloc);
     write_u32(&mut out, MAGIC)?;
-    write_u16(&mut out, VERSION)?;
+    write_u16(&mut out, version_of(state))?;
     write_flag(
         &mut out,
         matches!(state.socket_state, HandoverSocketState::Connected),
@@ -81,7 +109,7 @@ fn write_state(alloc: Global, state: &SocketHandoverState) -> Result<Vec<u8>, Al
 /// | Size | Field |
 /// |---|---|
 /// | 4 | `dcSn` |
-/// | 2 | the version, 1 |
+/// | 2 | the version: 2 where several messages are under way, else 1 |
 /// | 1 | 1 if connected, 0 if closed |
 /// | 4 | `my_verification_tag` |
 /// | 4 | `my_initial_tsn` |
@@ -111,17 +139,16 @@ pub fn to_bytes(alloc: Global, state: &SocketHandoverState) -> Result<Vec<u8>, A
     write_state(alloc, state)
 }
 
-// The magic and the version.
-#[tactic(auto, unfolding(crate::specs::Reading::after_header))]
-fn read_header(reader: &mut Reader) -> Result<(), ReadError>
-    ensures { MatchResult result
-        (λ _. after_header reader.old.rest.now ≡ Some reader.new.rest.now)
-        (λ error. FailsReading error (after_header reader.old.rest.now)) }
+// The magic, and the version.
+#[tactic(auto, unfolding(crate::specs::Reading::after_magic))]
+fn read_version(reader: &mut Reader) -> Result<u16, ReadError>
+    ensures { ReadsValue (λ version. version) after_magic reader.old.rest.now result
+        reader.new.rest.now }
 {
     let magic = reader.u32()?;
     let version = reader.u16()?;
-    if magic == MAGIC && version == VERSION {
-        Ok(())
+    if magic == MAGIC {
+        Ok(version)
     } else {
         Err(ReadError::Malformed)
     }
@@ -189,16 +216,19 @@ fn read_state(alloc: Global, bytes: &[u8]) -> Result<SocketHandoverState, ReadEr
     ensures { ReadsAll snapshot (read_snapshot bytes.now) result }
 {
     let mut reader = Reader { rest: bytes };
-    read_header(&mut reader)?;
+    let version = read_version(&mut reader)?;
     let state = read_content(alloc, &mut reader)?;
     if !reader.rest.is_empty() {
+        return Err(ReadError::Malformed);
+    }
+    if version != version_of(&state) {
         return Err(ReadError::Malformed);
     }
     Ok(state)
 }
 
-/// The snapshot that the bytes are, as `to_bytes` writes it. `None` if they are none: the magic or the
-/// version is another one, they are too few or too many, or a flag is neither 0 nor 1.
+/// The snapshot that the bytes are, as `to_bytes` writes it. `None` if they are none: the magic is another
+/// one or the version isn't that of such a snapshot, they are too few or too many, or a flag is neither 0 nor 1.
 ///
 /// A count reserves no memory: lists take at most a small multiple of the bytes.
 pub fn from_bytes(alloc: Global, bytes: &[u8]) -> Result<Option<SocketHandoverState>, AllocError>

@@ -15,6 +15,7 @@ use Rattle.dcsctp_spec.specs.endpoint.Event.{Event, sent, connected, aborted}
 use Rattle.dcsctp_spec.specs.endpoint.Cause.{missing_mandatory_parameter}
 use Rattle.dcsctp_spec.specs.Packet.{Introduction, Content, init, cookie_echo, abort, Emission}
 use Rattle.dcsctp_types.specs.declared.tracking.AckState.TheVariants.{Idle}
+use Rattle.dcsctp_types.specs.declared.sending.UnderWay.{UnderWay}
 use Rattle.dcsctp_types.specs.declared.sending.Pause.{Pause}
 use Rattle.dcsctp_types.specs.declared.sending.Pause.TheVariants.{Open, Pausing}
 use Rattle.dcsctp_types.specs.queues.SendStreams.{Waiting, Stream}
@@ -64,18 +65,21 @@ abbrev waiting : Waiting
 waiting =
     record { message_id = 6; ppid = 53; is_unordered = false; payload = 1 ∷ 2 ∷ 3 ∷ 4 ∷ 5 ∷ []; max_retransmissions = None; expires_at = None; lifecycle = None }
 
-abbrev waits_on : ℕ → ℕ → ℕ → Stream
-waits_on next_ssn next_mid bytes =
-    record { id = 3; priority = 5; threshold = 7; amount = bytes; next_ssn = next_ssn; next_mid = next_mid; next_unordered_mid = 0; last_turn = 0; pause = Open; messages = waiting ∷ [] }
+abbrev waits_on : ℕ → ℕ → ℕ → Option UnderWay → Stream
+waits_on next_ssn next_mid bytes under_way =
+    record { id = 3; priority = 5; threshold = 7; amount = bytes; next_ssn = next_ssn; next_mid = next_mid; next_unordered_mid = 0; last_turn = 0; turn_bytes = 0; pause = Open; under_way = under_way; messages = waiting ∷ [] }
+
+abbrev under_way_as : ℕ → Option UnderWay
+under_way_as ssn = Some (record { stream_id = record { 0 = 3 }; ssn = ssn; mid = 0; next_fsn = 1; sent = 2 })
 
 abbrev nothing_on : Pause → Stream
-nothing_on pause = record { id = 4; priority = 256; threshold = 0; amount = 0; next_ssn = 0; next_mid = 0; next_unordered_mid = 0; last_turn = 0; pause = pause; messages = [] }
+nothing_on pause = record { id = 4; priority = 256; threshold = 0; amount = 0; next_ssn = 0; next_mid = 0; next_unordered_mid = 0; last_turn = 0; turn_bytes = 0; pause = pause; under_way = None; messages = [] }
 
 abbrev pub queue : SendQueueState
 queue =
     record {
-      streams = waits_on 8 0 3 ∷ nothing_on Pausing ∷ [];
-      under_way = Some (record { stream_id = record { 0 = 3 }; ssn = 7; mid = 0; next_fsn = 1; sent = 2 });
+      streams = waits_on 8 0 3 (under_way_as 7) ∷ nothing_on Pausing ∷ [];
+      held = Some (record { 0 = 3 });
       total_amount = 3;
       total_threshold = 0;
       default_priority = 256;
@@ -84,21 +88,21 @@ queue =
       next_message_id = 7;
       takes_turns = false;
       turns_taken = 0;
+      turn_size = 1156;
     }
 
 -- and it continues under the next number, as messages are interleaved
 abbrev pub queue_renumbered : SendQueueState
 queue_renumbered =
     record queue {
-      streams = waits_on 8 1 3 ∷ nothing_on Pausing ∷ [];
-      under_way = Some (record { stream_id = record { 0 = 3 }; ssn = 8; mid = 0; next_fsn = 1; sent = 2 });
+      streams = waits_on 8 1 3 (under_way_as 8) ∷ nothing_on Pausing ∷ [];
       is_interleaved = true;
     }
 
 -- and with the message before its first byte again
 abbrev pub queue_at_start : SendQueueState
 queue_at_start =
-    record queue { streams = waits_on 0 0 5 ∷ nothing_on Open ∷ []; under_way = None; total_amount = 5; is_interleaved = true }
+    record queue { streams = waits_on 0 0 5 None ∷ nothing_on Open ∷ []; held = None; total_amount = 5; is_interleaved = true }
 
 -- 5 seconds after it was made
 abbrev pub socket : Endpoint → ℕ → ℤ → Core → ℕ → Endpoint

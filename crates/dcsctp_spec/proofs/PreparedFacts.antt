@@ -4,7 +4,7 @@ use Rattle.dcsctp_types.specs.declared.association.Held.{Held}
 use Rattle.dcsctp_types.specs.declared.association.Pair.{Pair}
 use Rattle.dcsctp_types.specs.declared.sending.Pause.{Pause}
 use Rattle.dcsctp_types.specs.declared.sending.Pause.TheVariants.{Open, Pausing}
-use Rattle.dcsctp_types.specs.declared.sending.UnderWay.{UnderWay}
+use Rattle.dcsctp_types.specs.declared.ids.StreamId.{StreamId}
 use Rattle.dcsctp_spec.specs.endpoint.Event.{Event, buffered_amount_low, total_buffered_amount_low, lifecycle_message_expired, lifecycle_end}
 use Rattle.dcsctp_spec.specs.Packet.{Emission}
 use Rattle.dcsctp_types.specs.queues.SendStreams.{Waiting, Stream}
@@ -39,15 +39,18 @@ message name =
 
 stream : ℕ → Pause → ℕ → List Waiting → Stream
 stream id pause bytes messages =
-    record { id = id; priority = 256; threshold = 0; amount = bytes; next_ssn = 7; next_mid = 8; next_unordered_mid = 9; last_turn = 0; pause = pause; messages = messages }
+    record { id = id; priority = 256; threshold = 0; amount = bytes; next_ssn = 7; next_mid = 8; next_unordered_mid = 9; last_turn = 0; turn_bytes = 0; pause = pause; under_way = None; messages = messages }
 
-queue : ℕ → Option UnderWay → List Stream → SendQueueState
-queue bytes under_way streams =
-    record { streams = streams; under_way = under_way; total_amount = bytes; total_threshold = 5; default_priority = 256; default_threshold = 0; is_interleaved = false; next_message_id = 9; takes_turns = false; turns_taken = 0 }
+queue : ℕ → Option StreamId → List Stream → SendQueueState
+queue bytes held streams =
+    record { streams = streams; held = held; total_amount = bytes; total_threshold = 5; default_priority = 256; default_threshold = 0; is_interleaved = false; next_message_id = 9; takes_turns = false; turns_taken = 0; turn_size = 1156 }
 
 -- a byte of a message was sent on this stream
-under_way_on : ℕ → Option UnderWay
-under_way_on id = Some (record { stream_id = record { 0 = id }; ssn = 6; mid = 7; next_fsn = 1; sent = 1 })
+going : Stream → Stream
+going stream = record stream { under_way = Some (record { stream_id = record { 0 = stream.id }; ssn = 6; mid = 7; next_fsn = 1; sent = 1 }) }
+
+abbrev stream_held : ℕ → Option StreamId
+stream_held id = Some (record { 0 = id })
 
 -- Two messages wait on stream 2: they go, and the stream is ready.
 abbrev two : SendQueueState
@@ -68,19 +71,19 @@ again_stays = refl
 
 -- Of the one that is under way a byte was sent, and another waits after it: the first stays, and the stream isn't ready yet.
 abbrev started : SendQueueState
-started = queue 5 (under_way_on 2) (stream 2 Open 5 (message 4 ∷ message 6 ∷ []) ∷ [])
+started = queue 5 (stream_held 2) (going (stream 2 Open 5 (message 4 ∷ message 6 ∷ [])) ∷ [])
 
-one_stays : queue_with_prepared 2 started ≡ queue 2 (under_way_on 2) (stream 2 Pausing 2 (message 4 ∷ []) ∷ [])
-unfolding queue stream message under_way_on
+one_stays : queue_with_prepared 2 started ≡ queue 2 (stream_held 2) (going (stream 2 Pausing 2 (message 4 ∷ [])) ∷ [])
+unfolding queue stream going message
 one_stays = refl
 
 not_ready_yet : ready_streams (queue_with_prepared 2 started) ≡ []
-unfolding queue stream message under_way_on
+unfolding queue stream going message
 not_ready_yet = refl
 
 -- A message of another stream that is under way is no hindrance.
-another_is_under_way : ready_streams (queue_with_prepared 2 (queue 5 (under_way_on 1) (stream 1 Open 2 (message 4 ∷ []) ∷ stream 2 Open 3 (message 6 ∷ []) ∷ []))) ≡ 2 ∷ []
-unfolding queue stream message under_way_on
+another_is_under_way : ready_streams (queue_with_prepared 2 (queue 5 (stream_held 1) (going (stream 1 Open 2 (message 4 ∷ [])) ∷ stream 2 Open 3 (message 6 ∷ []) ∷ []))) ≡ 2 ∷ []
+unfolding queue stream going message
 another_is_under_way = refl
 
 -- A stream that was never used is ready at once.
@@ -113,7 +116,7 @@ then_another = refl
 
 -- Two bytes are left of the one that is under way, and its name stays.
 one_is_told : told (2 ∷ []) started ≡ lifecycle_message_expired 6 ∷ lifecycle_end 6 ∷ []
-unfolding told queue stream message under_way_on
+unfolding told queue stream message going
 one_is_told = refl
 
 -- It is reported where the amount comes down to its threshold, and not where it was there before.

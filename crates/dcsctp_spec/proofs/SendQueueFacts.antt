@@ -1,13 +1,14 @@
 -- Outside examples of messages that wait to be sent, computed by the definitions.
 use Rattle.std.proofs.Common.{◌≡◌, ℕ, true, false, Option, None, Some, List, [], ◌∷◌, refl}
 use Rattle.dcsctp_types.specs.declared.ids.LifecycleId.{LifecycleId}
+use Rattle.dcsctp_types.specs.declared.ids.StreamId.{StreamId}
 use Rattle.dcsctp_types.specs.declared.sending.Pause.{Pause}
 use Rattle.dcsctp_types.specs.declared.sending.Pause.TheVariants.{Open, Pausing}
 use Rattle.dcsctp_types.specs.declared.sending.UnderWay.{UnderWay}
 use Rattle.dcsctp_types.specs.Ids.{lifecycle_number}
 use Rattle.dcsctp_types.specs.queues.SendStreams.{Waiting, Stream}
 use Rattle.dcsctp_spec.specs.queues.SendQueue.{SendQueueState, has_queued_data, numbered_for, queue_restarted}
-use Rattle.dcsctp_spec.specs.queues.Sending.{fragment, after_part, after_last}
+use Rattle.dcsctp_spec.specs.queues.Sending.{fragment, after_part, after_last, turn_counted, stream_held_after}
 use Rattle.dcsctp_spec.specs.queues.OwnResets.{queue_handing_out, queue_committed, queue_rolled_back}
 use Rattle.dcsctp_spec.specs.endpoint.MessageOutcomes.{Sending, sending_queued}
 
@@ -49,14 +50,22 @@ plain_waits number =
 -- a stream whose next messages have the numbers 7, 8 and 9
 stream : ℕ → Pause → ℕ → List Waiting → Stream
 stream id pause amount messages =
-    record { id = id; priority = 256; threshold = 0; amount = amount; next_ssn = 7; next_mid = 8; next_unordered_mid = 9; last_turn = 0; pause = pause; messages = messages }
+    record { id = id; priority = 256; threshold = 0; amount = amount; next_ssn = 7; next_mid = 8; next_unordered_mid = 9; last_turn = 0; turn_bytes = 0; pause = pause; under_way = None; messages = messages }
 
 fresh : ℕ → ℕ → List Waiting → Stream
 fresh id amount messages = record (stream id Open amount messages) { next_ssn = 0; next_mid = 0; next_unordered_mid = 0 }
 
-queue : ℕ → ℕ → Option UnderWay → List Stream → SendQueueState
-queue total next under_way streams =
-    record { streams = streams; under_way = under_way; total_amount = total; total_threshold = 0; default_priority = 256; default_threshold = 0; is_interleaved = false; next_message_id = next; takes_turns = false; turns_taken = 0 }
+-- with its oldest message under way
+going : UnderWay → Stream → Stream
+going under_way stream = record stream { under_way = Some under_way }
+
+queue : ℕ → ℕ → Option StreamId → List Stream → SendQueueState
+queue total next held streams =
+    record { streams = streams; held = held; total_amount = total; total_threshold = 0; default_priority = 256; default_threshold = 0; is_interleaved = false; next_message_id = next; takes_turns = false; turns_taken = 0; turn_size = 4 }
+
+-- stream 1, as one that is held
+abbrev one : Option StreamId
+one = Some (record { 0 = 1 })
 
 -- It waits as it was sent, on a stream that was never used.
 first_waits : (name : LifecycleId) → sending_queued 1_000_000_000 (asked name) (queue 0 0 None []) ≡ queue 3 1 None (fresh 1 3 (asked_waits name ∷ []) ∷ [])
@@ -93,14 +102,14 @@ one_sent = record begun_now { next_fsn = 1; sent = 1 }
 
 -- Its first byte leaves, and its SSN is used up.
 first_leaves : after_part 0 1 (plain_waits 4) begun_now (queue 2 5 None (stream 1 Open 2 (plain_waits 4 ∷ []) ∷ []))
-    ≡ queue 1 5 (Some one_sent) (record (stream 1 Open 1 (plain_waits 4 ∷ [])) { next_ssn = 8 } ∷ [])
-unfolding queue stream plain_waits begun_now one_sent
+    ≡ queue 1 5 one (going one_sent (record (stream 1 Open 1 (plain_waits 4 ∷ [])) { next_ssn = 8 }) ∷ [])
+unfolding queue stream going plain_waits begun_now one_sent
 first_leaves = refl
 
 -- Then the other does, and nothing waits.
-last_leaves : after_last 0 (plain_waits 4) one_sent (queue 1 5 (Some one_sent) (record (stream 1 Open 1 (plain_waits 4 ∷ [])) { next_ssn = 8 } ∷ []))
+last_leaves : after_last 0 (plain_waits 4) one_sent (queue 1 5 one (going one_sent (record (stream 1 Open 1 (plain_waits 4 ∷ [])) { next_ssn = 8 }) ∷ []))
     ≡ queue 0 5 None (record (stream 1 Open 0 []) { next_ssn = 8 } ∷ [])
-unfolding queue stream plain_waits begun_now one_sent
+unfolding queue stream going plain_waits begun_now one_sent
 last_leaves = refl
 
 last_says : fragment one_sent (plain_waits 4) 1
@@ -125,28 +134,56 @@ last_says = refl
 -- ---- numbers
 
 -- The message under way takes the next MID as messages are interleaved.
-renumbered_now : numbered_for true (queue 1 5 (Some one_sent) (stream 1 Open 1 (plain_waits 4 ∷ []) ∷ []))
-    ≡ record (queue 1 5 (Some one_sent) (record (stream 1 Open 1 (plain_waits 4 ∷ [])) { next_mid = 9 } ∷ [])) { is_interleaved = true }
-unfolding queue stream plain_waits begun_now one_sent
+renumbered_now : numbered_for true (queue 1 5 one (going one_sent (stream 1 Open 1 (plain_waits 4 ∷ [])) ∷ []))
+    ≡ record (queue 1 5 one (going one_sent (record (stream 1 Open 1 (plain_waits 4 ∷ [])) { next_mid = 9 }) ∷ [])) { is_interleaved = true }
+unfolding queue stream going plain_waits begun_now one_sent
 renumbered_now = refl
 
 -- For another association it waits whole again, and all numbers begin at 0.
-begins_again : queue_restarted (queue 1 5 (Some one_sent) (stream 1 Open 1 (plain_waits 4 ∷ []) ∷ stream 3 Pausing 0 [] ∷ []))
+begins_again : queue_restarted (queue 1 5 one (going one_sent (stream 1 Open 1 (plain_waits 4 ∷ [])) ∷ stream 3 Pausing 0 [] ∷ []))
     ≡ queue 2 5 None (fresh 1 2 (plain_waits 4 ∷ []) ∷ fresh 3 0 [] ∷ [])
-unfolding queue stream fresh plain_waits begun_now one_sent
+unfolding queue stream going fresh plain_waits begun_now one_sent
 begins_again = refl
 
 -- ---- streams whose reset is requested
 
 -- Of two that are ready one is handed out: the first. The other stays ready. A stream whose message is under way isn't.
 abbrev asked_of : SendQueueState
-asked_of = queue 1 5 (Some one_sent) (stream 1 Pausing 1 (plain_waits 4 ∷ []) ∷ stream 2 Pausing 0 [] ∷ stream 3 Pausing 0 [] ∷ [])
+asked_of = queue 1 5 one (going one_sent (stream 1 Pausing 1 (plain_waits 4 ∷ [])) ∷ stream 2 Pausing 0 [] ∷ stream 3 Pausing 0 [] ∷ [])
 
-handed : queue_committed (queue_handing_out 1 asked_of) ≡ queue 1 5 (Some one_sent) (stream 1 Pausing 1 (plain_waits 4 ∷ []) ∷ fresh 2 0 [] ∷ stream 3 Pausing 0 [] ∷ [])
-unfolding queue stream fresh begun_now one_sent
+handed : queue_committed (queue_handing_out 1 asked_of) ≡ queue 1 5 one (going one_sent (stream 1 Pausing 1 (plain_waits 4 ∷ [])) ∷ fresh 2 0 [] ∷ stream 3 Pausing 0 [] ∷ [])
+unfolding queue stream going fresh begun_now one_sent
 handed = refl
 
 -- If its reset failed, its numbers continue.
-handed_back : queue_rolled_back (queue_handing_out 1 asked_of) ≡ queue 1 5 (Some one_sent) (stream 1 Pausing 1 (plain_waits 4 ∷ []) ∷ stream 2 Open 0 [] ∷ stream 3 Pausing 0 [] ∷ [])
-unfolding queue stream begun_now one_sent
+handed_back : queue_rolled_back (queue_handing_out 1 asked_of) ≡ queue 1 5 one (going one_sent (stream 1 Pausing 1 (plain_waits 4 ∷ [])) ∷ stream 2 Open 0 [] ∷ stream 3 Pausing 0 [] ∷ [])
+unfolding queue stream going begun_now one_sent
 handed_back = refl
+
+-- ---- messages that interleave: a turn has 4 bytes here
+
+abbrev interleaving : List Stream → SendQueueState
+interleaving streams = record (queue 8 5 None streams) { is_interleaved = true; takes_turns = true }
+
+-- A byte of a turn leaves no stream held, and the turn isn't over.
+none_is_held : after_part 0 1 (plain_waits 4) begun_now (interleaving (stream 1 Open 8 (plain_waits 4 ∷ []) ∷ []))
+    ≡ record (interleaving (going one_sent (record (stream 1 Open 7 (plain_waits 4 ∷ [])) { next_mid = 9; turn_bytes = 1 }) ∷ [])) { total_amount = 7 }
+unfolding queue stream going plain_waits begun_now one_sent
+none_is_held = refl
+
+-- With the fourth it is over.
+turn_is_over : after_part 0 1 (plain_waits 4) begun_now (interleaving (record (stream 1 Open 8 (plain_waits 4 ∷ [])) { turn_bytes = 3 } ∷ []))
+    ≡ record (interleaving (going one_sent (record (stream 1 Open 7 (plain_waits 4 ∷ [])) { next_mid = 9; last_turn = 1 }) ∷ [])) { total_amount = 7; turns_taken = 1 }
+unfolding queue stream going plain_waits begun_now one_sent
+turn_is_over = refl
+
+-- What is sent beyond it counts for the next.
+beyond_its_turn : turn_counted 0 true 3 (interleaving (record (stream 1 Open 8 []) { turn_bytes = 3 } ∷ []))
+    ≡ record (interleaving (record (stream 1 Open 8 []) { last_turn = 1; turn_bytes = 2 } ∷ [])) { turns_taken = 1 }
+unfolding queue stream
+beyond_its_turn = refl
+
+-- A message that may be abandoned is held to its end.
+abandonable_is_held : (queue : SendQueueState) (id : StreamId) → stream_held_after id (record (plain_waits 4) { max_retransmissions = Some 0 }) queue ≡ Some id
+unfolding plain_waits
+abandonable_is_held queue id = refl

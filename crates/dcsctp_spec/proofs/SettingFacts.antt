@@ -9,12 +9,12 @@ use Rattle.dcsctp_spec.specs.endpoint.SettingOutcomes.{set_in_queue, endpoint_wi
 
 stream : ℕ → ℕ → ℕ → Stream
 stream id threshold priority =
-    record { id = id; priority = priority; threshold = threshold; amount = 0; next_ssn = 0; next_mid = 0; next_unordered_mid = 0; last_turn = 0; pause = Open; messages = [] }
+    record { id = id; priority = priority; threshold = threshold; amount = 0; next_ssn = 0; next_mid = 0; next_unordered_mid = 0; last_turn = 0; turn_bytes = 0; pause = Open; under_way = None; messages = [] }
 
 -- a queue of these streams, with the defaults of the options
 queue : List Stream → SendQueueState
 queue streams =
-    record { streams = streams; under_way = None; total_amount = 0; total_threshold = 0; default_priority = 256; default_threshold = 0; is_interleaved = false; next_message_id = 0; takes_turns = false; turns_taken = 0 }
+    record { streams = streams; held = None; total_amount = 0; total_threshold = 0; default_priority = 256; default_threshold = 0; is_interleaved = false; next_message_id = 0; takes_turns = false; turns_taken = 0; turn_size = 1156 }
 
 -- A stream that was never used has the defaults but for what is set, and comes between its neighbours.
 first_is_set : set_in_queue (stream_priority 1 5) (queue []) ≡ queue (stream 1 0 5 ∷ [])

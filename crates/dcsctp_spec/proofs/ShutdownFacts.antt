@@ -160,11 +160,15 @@ abandoned_by_port e transfer = refl
 passed_goes_on : (e : Endpoint) (transfer : Transfer) → may_continue_shutdown (by_rfc (at e (in_phase shutdown_pending) transfer 0) 0) ≡ true
 passed_goes_on e transfer = refl
 
+-- with no message under way
+abbrev none_under_way : List Stream → List Stream
+none_under_way streams = map {A = Stream} {B = Stream} (λ stream. record stream { under_way = None }) streams
+
 -- What waits for a reset is waited for, too,
 abbrev awaiting_reset : Endpoint → Transfer → ℕ → ℕ → (Stream → Stream) → Endpoint
 awaiting_reset e transfer burst mtu of_stream =
     let by : Endpoint = by_rfc (at e (in_phase shutdown_pending) transfer 0) burst in
-    record by { options = record by.options { mtu = mtu }; queues = record by.queues { queue = record queue { streams = map of_stream queue.streams; under_way = None } } }
+    record by { options = record by.options { mtu = mtu }; queues = record by.queues { queue = record queue { streams = map of_stream (none_under_way queue.streams); held = None } } }
 
 reset_waits : (e : Endpoint) (transfer : Transfer) → may_continue_shutdown (awaiting_reset e transfer 4 1191 pausing) ≡ false
 reset_waits e transfer = refl
@@ -191,13 +195,13 @@ reset_by_port : (e : Endpoint) (transfer : Transfer) → may_continue_shutdown (
 reset_by_port e transfer = refl
 
 -- On a paused stream nothing can be sent, nor can what is past its lifetime.
-nothing_waits_by_rfc : has_waiting_message 10 (record queue { streams = map pausing queue.streams; under_way = None }) ≡ false
+nothing_waits_by_rfc : has_waiting_message 10 (record queue { streams = map pausing (none_under_way queue.streams); held = None }) ≡ false
 nothing_waits_by_rfc = refl
 
-no_live_message : has_waiting_message 10 (record queue { streams = map expired_at_9 queue.streams; under_way = None }) ≡ false
+no_live_message : has_waiting_message 10 (record queue { streams = map expired_at_9 (none_under_way queue.streams); held = None }) ≡ false
 no_live_message = refl
 
-a_live_message : has_waiting_message 8 (record queue { streams = map expired_at_9 queue.streams; under_way = None }) ≡ true
+a_live_message : has_waiting_message 8 (record queue { streams = map expired_at_9 (none_under_way queue.streams); held = None }) ≡ true
 a_live_message = refl
 
 -- The rest of a message that was begun is, whatever its age.

@@ -84,7 +84,7 @@ in_flight_are_valid now false state tx each = refl
 
 waiting_are_valid : (now : ℕ) (with_data : Bool) (queue : SendQueueState) (tx : SendPart) → IsWellFormed queue
     → list_all is_valid_queued (part_with_queue now with_data queue tx).queued_messages ≡ true
-waiting_are_valid now true queue tx is = queued_are_valid now queue.under_way queue.streams is.ascending is.bytes is.can
+waiting_are_valid now true queue tx is = queued_are_valid now queue.streams is.bytes is.can
 waiting_are_valid now false queue tx is = refl
 
 sending_is_valid : (now : ℕ) (with_data : Bool) (queue : SendQueueState) (state : RetransmissionState) (tx : SendPart) → IsWellFormed queue

@@ -60,7 +60,7 @@ filled_from_new now old resent mid again anew unmarked =
 
 -- Messages were dropped that are too old: their events come first.
 pub filled_from_dropped : (now : ℕ) (old resent mid : Stage) (events : List (Event (List ℕ))) (left : SendQueueState) → StageSteps (StepAgain now) old resent → StageSteps (StepNew now) (resent_packet_counted old.room resent) mid → MayAdd mid
-    → mid.waiting.under_way ≡ None → Drops now mid.waiting events left → Filled now old (mid.told ++ events)
+    → mid.waiting.held ≡ None → Drops now mid.waiting events left → Filled now old (mid.told ++ events)
 filled_from_dropped now old resent mid events left again anew may idle drops =
     let (sent, steps, still, halts, (rest, told)) = sent_from_dropped now (resent_packet_counted old.room resent) mid events left anew may idle drops in
     told_before now old (mid.told ++ events) sent.told rest (told ∙ sym (append_assoc mid.told events rest)) (full now old resent sent again steps (inr (still, halts)))

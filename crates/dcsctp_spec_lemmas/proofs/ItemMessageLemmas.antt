@@ -126,71 +126,78 @@ some_row place items item at =
 
 -- ---- the message under way
 
--- A stream with this number has the message as its oldest.
+-- The stream has this number, and the message is under way on it.
+record IsHere (stream message_id : ℕ) (x : Stream) : Type 0 where
+  pub is : x.id ≡ stream
+  pub under_way : UnderWay
+  pub goes_on : x.under_way ≡ Some under_way
+  pub message : Waiting
+  pub front : front_of x.messages ≡ Some message
+  pub named : message.message_id ≡ message_id
+
+-- One of the streams is so.
 record HasFront (stream message_id : ℕ) (streams : List Stream) : Type 0 where
   pub place : ℕ
   pub within : place < length streams
-  pub is : (stream_at streams place).id ≡ stream
-  pub message : Waiting
-  pub front : front_of (stream_at streams place).messages ≡ Some message
-  pub named : message.message_id ≡ message_id
-
--- the first of the streams doesn't
-abbrev IsOther : ℕ → ℕ → Stream → Type 0
-IsOther stream message_id first = (message : Waiting) → first.id ≡ stream → front_of first.messages ≡ Some message → message.message_id ≡ message_id → ⊥
+  pub here : IsHere stream message_id (stream_at streams place)
 
 front_behind : (stream message_id : ℕ) (x : Stream) (xs : List Stream) → HasFront stream message_id xs → HasFront stream message_id (x ∷ xs)
 front_behind stream message_id x xs later =
     let within = later.within in
-    record { place = suc later.place; within = omega arith; is = later.is; message = later.message; front = later.front; named = later.named }
+    record { place = suc later.place; within = omega arith; here = later.here }
 
-no_front : (stream message_id : ℕ) (x : Stream) (xs : List Stream) → IsOther stream message_id x → (HasFront stream message_id xs → ⊥) → HasFront stream message_id (x ∷ xs) → ⊥
-no_front stream message_id x xs other none has = go has.place has.within has.is has.message has.front has.named
+no_front : (stream message_id : ℕ) (x : Stream) (xs : List Stream) → (IsHere stream message_id x → ⊥) → (HasFront stream message_id xs → ⊥) → HasFront stream message_id (x ∷ xs) → ⊥
+no_front stream message_id x xs other none has = go has.place has.within has.here
   where
-    go : (place : ℕ) → place < length (x ∷ xs) → (stream_at (x ∷ xs) place).id ≡ stream → (message : Waiting) → front_of (stream_at (x ∷ xs) place).messages ≡ Some message → message.message_id ≡ message_id → ⊥
-    go zero within is message front named = other message is front named
-    go (suc place) within is message front named = none (record { place = place; within = omega arith; is = is; message = message; front = front; named = named })
+    go : (place : ℕ) → place < length (x ∷ xs) → IsHere stream message_id (stream_at (x ∷ xs) place) → ⊥
+    go zero within here = other here
+    go (suc place) within here = none (record { place = place; within = omega arith; here = here })
+
+here_by_front : (stream message_id : ℕ) (x : Stream) (u : UnderWay) (front : Option Waiting) → x.id ≡ stream → x.under_way ≡ Some u → front_of x.messages ≡ front → Decided (IsHere stream message_id x)
+here_by_front stream message_id x u None is goes_on front = inr (λ here. let both : None ≡ Some here.message = sym front ∙ here.front in absurd (cc))
+here_by_front stream message_id x u (Some message) is goes_on front = elim (same_decided message.message_id message_id) [
+  | inl named ↦ inl (record { is = is; under_way = u; goes_on = goes_on; message = message; front = front; named = named })
+  | inr other ↦ inr (λ here.
+      let both : Some message ≡ Some here.message = sym front ∙ here.front in
+      let e : message ≡ here.message = cc in
+      other (ap (λ (w : Waiting). w.message_id) e ∙ here.named))
+]
+
+here_by_progress : (stream message_id : ℕ) (x : Stream) (u : Option UnderWay) → x.id ≡ stream → x.under_way ≡ u → Decided (IsHere stream message_id x)
+here_by_progress stream message_id x None is goes_on = inr (λ here. let both : None ≡ Some here.under_way = sym goes_on ∙ here.goes_on in absurd (cc))
+here_by_progress stream message_id x (Some u) is goes_on = here_by_front stream message_id x u (front_of x.messages) is goes_on refl
+
+here_decided : (stream message_id : ℕ) (x : Stream) → Decided (IsHere stream message_id x)
+here_decided stream message_id x = elim (same_decided x.id stream) [
+  | inl is ↦ here_by_progress stream message_id x x.under_way is refl
+  | inr is_not ↦ inr (λ here. is_not here.is)
+]
 
 front_decided : (stream message_id : ℕ) (streams : List Stream) → Decided (HasFront stream message_id streams)
 front_decided stream message_id [] = inr (λ has. let within = has.within in omega arith)
 front_decided stream message_id (x ∷ xs) = elim (front_decided stream message_id xs) [
   | inl later ↦ inl (front_behind stream message_id x xs later)
-  | inr none ↦ elim (same_decided x.id stream) [
-    | inl is ↦ go none is (front_of x.messages) refl
-    | inr is_not ↦ inr (no_front stream message_id x xs (λ message is front named. is_not is) none)
+  | inr none ↦ elim (here_decided stream message_id x) [
+    | inl here ↦ inl (record { place = 0; within = omega arith; here = here })
+    | inr other ↦ inr (no_front stream message_id x xs other none)
   ]
 ]
-  where
-    go : (HasFront stream message_id xs → ⊥) → x.id ≡ stream → (front : Option Waiting) → front_of x.messages ≡ front → Decided (HasFront stream message_id (x ∷ xs))
-    go none is None front =
-        inr (no_front stream message_id x xs (λ message same there named. let both : None ≡ Some message = sym front ∙ there in absurd (cc)) none)
-    go none is (Some message) front = elim (same_decided message.message_id message_id) [
-      | inl named ↦ inl (record { place = 0; within = omega arith; is = is; message = message; front = front; named = named })
-      | inr other ↦ inr (no_front stream message_id x xs (λ m same there named. let both : Some message ≡ Some m = sym front ∙ there in let e : message ≡ m = cc in other (ap (λ (w : Waiting). w.message_id) e ∙ named)) none)
-    ]
 
 pub named_decided : (queue : SendQueueState) (stream message_id : ℕ) → Decided (IsMessageUnderWay queue stream message_id)
-named_decided queue stream message_id = go queue.under_way refl
-  where
-    go : (under_way : Option UnderWay) → queue.under_way ≡ under_way → Decided (IsMessageUnderWay queue stream message_id)
-    go None goes_on = inr (λ named. let both : None ≡ Some named.under_way = sym goes_on ∙ named.goes_on in absurd (cc))
-    go (Some under_way) goes_on = elim (same_decided under_way.stream_id.0 stream) [
-      | inr other ↦ inr (λ named.
-          let both : Some under_way ≡ Some named.under_way = sym goes_on ∙ named.goes_on in
-          let e : under_way ≡ named.under_way = cc in
-          other (ap (λ (u : UnderWay). u.stream_id.0) e ∙ named.same))
-      | inl same ↦ elim (front_decided stream message_id queue.streams) [
-        | inl has ↦ inl (record {
-          under_way = under_way;
-          goes_on = goes_on;
-          place = has.place;
-          within = has.within;
-          is = has.is;
-          same = same;
-          message = has.message;
-          front = has.front;
-          named = has.named;
-        })
-        | inr none ↦ inr (λ named. none (record { place = named.place; within = named.within; is = named.is; message = named.message; front = named.front; named = named.named }))
-      ]
-    ]
+named_decided queue stream message_id = elim (front_decided stream message_id queue.streams) [
+  | inl has ↦ inl (record {
+    place = has.place;
+    within = has.within;
+    is = has.here.is;
+    under_way = has.here.under_way;
+    goes_on = has.here.goes_on;
+    message = has.here.message;
+    front = has.here.front;
+    named = has.here.named;
+  })
+  | inr none ↦ inr (λ named. none (record {
+    place = named.place;
+    within = named.within;
+    here = record { is = named.is; under_way = named.under_way; goes_on = named.goes_on; message = named.message; front = named.front; named = named.named };
+  }))
+]

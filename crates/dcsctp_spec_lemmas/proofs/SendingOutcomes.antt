@@ -121,7 +121,7 @@ pub sent_from : (now : ℕ) (old mid : Stage) → StageSteps (StepNew now) old m
 sent_from now old mid steps unmarked = sent_within now old mid.room mid steps unmarked (omega arith)
 
 -- Messages were dropped that are too old: their events come first.
-pub sent_from_dropped : (now : ℕ) (old mid : Stage) (events : Told) (left : SendQueueState) → StageSteps (StepNew now) old mid → MayAdd mid → mid.waiting.under_way ≡ None → Drops now mid.waiting events left
+pub sent_from_dropped : (now : ℕ) (old mid : Stage) (events : Told) (left : SendQueueState) → StageSteps (StepNew now) old mid → MayAdd mid → mid.waiting.held ≡ None → Drops now mid.waiting events left
     → SendsOn now old mid events
 sent_from_dropped now old mid events left steps may idle drops =
     after_taking now old mid events steps may (λ new more_steps still less. sent_from now old new more_steps still)

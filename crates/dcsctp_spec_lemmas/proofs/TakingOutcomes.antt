@@ -3,18 +3,19 @@ use Rattle.std.proofs.Common.{◌≡◌, ◌∙◌, ◌⊎◌, inl, inr, ◌==�
 use Rattle.std.proofs.lemmas.Bool.Decides.{nat_tests}
 use Rattle.std.proofs.lemmas.List.{length-take}
 use Rattle.dcsctp_spec.specs.endpoint.Event.{Event}
+use Rattle.dcsctp_spec.specs.types.declared.ids.StreamId.{StreamId}
 use Rattle.dcsctp_spec.specs.types.declared.sending.UnderWay.{UnderWay}
-use Rattle.dcsctp_spec.specs.queues.NextItem.{HasNone, HasMessageUnderWay, IsStuck}
+use Rattle.dcsctp_spec.specs.queues.NextItem.{HasNone, HasHeldMessage, IsStuck}
 use Rattle.dcsctp_spec.specs.queues.SendQueue.{SendQueueState}
-use Rattle.dcsctp_spec.specs.types.queues.SendStreams.{Waiting, Stream, front_of, is_expired, stream_at, turns_of, IsNext}
-use Rattle.dcsctp_spec.specs.queues.Sending.{Fragment, Chooses, begun_under_way, fragment, size_produced, queue_after_producing, produced_events, drop_events, without_rest, Drops, none as none_dropped, more as one_more_dropped, TakesFragment, TakesNone}
+use Rattle.dcsctp_spec.specs.types.queues.SendStreams.{Waiting, Stream, front_of, stream_at, turns_of, IsNext}
+use Rattle.dcsctp_spec.specs.queues.Sending.{Fragment, Chooses, next_progress, is_too_old, fragment, size_produced, queue_after_producing, produced_events, drop_events, without_rest, Drops, none as none_dropped, more as one_more_dropped, TakesFragment, TakesNone}
 use Rattle.dcsctp_spec_lemmas.proofs.TurnOutcomes.{by_test, next_turn, next_front, count_messages, count_dropped}
 
 abbrev Told : Type 0
 Told = List (Event (List ℕ))
 
--- Drops leave what is under way.
-pub drops_idle : (now : ℕ) (old new : SendQueueState) (events : Told) → Drops now old events new → new.under_way ≡ old.under_way
+-- Drops leave which stream is held.
+pub drops_idle : (now : ℕ) (old new : SendQueueState) (events : Told) → Drops now old events new → new.held ≡ old.held
 drops_idle now old new events none_dropped = refl
 drops_idle now old new events (one_more_dropped before queue place message drops next front over) = drops_idle now old queue before drops
 
@@ -67,12 +68,12 @@ told_sooner now max old told first later (inr takes) =
 size_taken : (max : ℕ) (message : Waiting) (u : UnderWay) → length (fragment u message (size_produced max message u)).payload ≤ max
 size_taken max message u = let size = length-take (size_produced max message u) (drop u.sent message.payload) in omega (arith, size)
 
--- ---- no message is under way
+-- ---- no stream is held
 
-begins : (now max : ℕ) (old mid : SendQueueState) (told events : Told) (place : ℕ) (message : Waiting) → old.under_way ≡ None → Drops now old events mid → IsNext mid.streams place
-    → front_of (stream_at mid.streams place).messages ≡ Some message → is_expired now message ≡ false → TakesSome now max old told events
+begins : (now max : ℕ) (old mid : SendQueueState) (told events : Told) (place : ℕ) (message : Waiting) → old.held ≡ None → Drops now old events mid → IsNext mid.streams place
+    → front_of (stream_at mid.streams place).messages ≡ Some message → is_too_old now message (stream_at mid.streams place) ≡ false → TakesSome now max old told events
 begins now max old mid told events place message idle drops next front fresh =
-    let u : UnderWay = begun_under_way message (stream_at mid.streams place) in
+    let u : UnderWay = next_progress message (stream_at mid.streams place) in
     record {
       part = fragment u message (size_produced max message u);
       new = queue_after_producing place max message u mid;
@@ -85,7 +86,8 @@ begins now max old mid told events place message idle drops next front fresh =
         message = message;
         under_way = u;
         front = front;
-        chosen = rw idle (next, fresh, refl);
+        chosen = rw idle (next, fresh);
+        come = refl;
         is = refl;
         left = refl;
         events = refl;
@@ -100,7 +102,7 @@ abbrev Further : ℕ → ℕ → SendQueueState → SendQueueState → Told → 
 Further now max old mid told events =
     (left : SendQueueState) (dropped : Told) → count_messages left.streams + 1 ≡ count_messages mid.streams → Drops now old (events ++ dropped) left → Taking now max old told (events ++ dropped)
 
-takes_or_drops : (now max : ℕ) (old mid : SendQueueState) (told events : Told) → old.under_way ≡ None → Drops now old events mid → Further now max old mid told events → Taking now max old told events
+takes_or_drops : (now max : ℕ) (old mid : SendQueueState) (told events : Told) → old.held ≡ None → Drops now old events mid → Further now max old mid told events → Taking now max old told events
 takes_or_drops now max old mid told events idle drops further = go (next_turn mid.streams)
   where
     go : (turns_of mid.streams ≡ []) ⊎ ((place : ℕ) × IsNext mid.streams place) → Taking now max old told events
@@ -115,13 +117,13 @@ takes_or_drops now max old mid told events idle drops further = go (next_turn mi
         })
     go (inr (place, next)) =
         let (message, front) = next_front mid.streams place next in
-        by_test (is_expired now message)
+        by_test (is_too_old now message (stream_at mid.streams place))
         (λ over.
         told_sooner now max old told events (drop_events place 0 message mid)
         (further (without_rest place 0 message mid) (drop_events place 0 message mid) (count_dropped mid place 0 message next.within front) (one_more_dropped events mid place message drops next front over)))
         (λ fresh. inl (begins now max old mid told events place message idle drops next front fresh))
 
-taken_within : (now max : ℕ) (old mid : SendQueueState) (told events : Told) (count : ℕ) → count_messages mid.streams ≤ count → old.under_way ≡ None → Drops now old events mid
+taken_within : (now max : ℕ) (old mid : SendQueueState) (told events : Told) (count : ℕ) → count_messages mid.streams ≤ count → old.held ≡ None → Drops now old events mid
     → Taking now max old told events
 taken_within now max old mid told events zero few idle drops = takes_or_drops now max old mid told events idle drops (λ left dropped fewer drops. absurd (omega arith))
 taken_within now max old mid told events (suc count) few idle drops =
@@ -129,46 +131,47 @@ taken_within now max old mid told events (suc count) few idle drops =
     (λ left dropped fewer drops. taken_within now max old left told (events ++ dropped) count (omega arith) idle drops)
 
 -- Some messages were dropped already.
-pub taken_after : (now max : ℕ) (old mid : SendQueueState) (told events : Told) → old.under_way ≡ None → Drops now old events mid → Taking now max old told events
+pub taken_after : (now max : ℕ) (old mid : SendQueueState) (told events : Told) → old.held ≡ None → Drops now old events mid → Taking now max old told events
 taken_after now max old mid told events idle drops = taken_within now max old mid told events (count_messages mid.streams) (omega arith) idle drops
 
--- ---- a message is under way
+-- ---- a stream is held
 
--- this stream's oldest message is the one under way
-abbrev GoesOnHere : Stream → UnderWay → Type 0
-GoesOnHere x u = (x.id ≡ u.stream_id.0) × ((message : Waiting) × (front_of x.messages ≡ Some message))
+-- this stream is held, and has a message
+abbrev GoesOnHere : Stream → StreamId → Type 0
+GoesOnHere x held = (x.id ≡ held.0) × ((message : Waiting) × (front_of x.messages ≡ Some message))
 
 abbrev Decided : Type 0 → Type 0
 Decided P = P ⊎ (P → ⊥)
 
-front_decided : (x : Stream) (u : UnderWay) (front : Option Waiting) → x.id ≡ u.stream_id.0 → front_of x.messages ≡ front → Decided (GoesOnHere x u)
-front_decided x u None same is = inr (λ here. let front = here.1.1 in cc)
-front_decided x u (Some message) same is = inl (same, (message, is))
+front_decided : (x : Stream) (held : StreamId) (front : Option Waiting) → x.id ≡ held.0 → front_of x.messages ≡ front → Decided (GoesOnHere x held)
+front_decided x held None same is = inr (λ here. let front = here.1.1 in cc)
+front_decided x held (Some message) same is = inl (same, (message, is))
 
-here_decided : (x : Stream) (u : UnderWay) → Decided (GoesOnHere x u)
-here_decided x u =
-    by_test (x.id == u.stream_id.0)
-    (λ same. front_decided x u (front_of x.messages) (grind (arith, nat_tests)) refl)
+here_decided : (x : Stream) (held : StreamId) → Decided (GoesOnHere x held)
+here_decided x held =
+    by_test (x.id == held.0)
+    (λ same. front_decided x held (front_of x.messages) (grind (arith, nat_tests)) refl)
     (λ apart. inr (λ here. let e = here.0 in grind (arith, nat_tests)))
 
-here_or_behind : (x : Stream) (xs : List Stream) (u : UnderWay) (place : ℕ) (message : Waiting) → place < length (x ∷ xs) → (stream_at (x ∷ xs) place).id ≡ u.stream_id.0
-    → front_of (stream_at (x ∷ xs) place).messages ≡ Some message → GoesOnHere x u ⊎ HasMessageUnderWay xs u
-here_or_behind x xs u zero message within is front = inl (is, (message, front))
-here_or_behind x xs u (suc place) message within is front = inr (record { place = place; within = omega arith; is = is; message = message; front = front })
+here_or_behind : (x : Stream) (xs : List Stream) (held : StreamId) (place : ℕ) (message : Waiting) → place < length (x ∷ xs) → (stream_at (x ∷ xs) place).id ≡ held.0
+    → front_of (stream_at (x ∷ xs) place).messages ≡ Some message → GoesOnHere x held ⊎ HasHeldMessage xs held
+here_or_behind x xs held zero message within is front = inl (is, (message, front))
+here_or_behind x xs held (suc place) message within is front = inr (record { place = place; within = omega arith; is = is; message = message; front = front })
 
-on_front : (x : Stream) (xs : List Stream) (u : UnderWay) → Decided (GoesOnHere x u) → Decided (HasMessageUnderWay xs u) → Decided (HasMessageUnderWay (x ∷ xs) u)
-on_front x xs u (inl here) behind = inl (record { place = 0; within = omega arith; is = here.0; message = here.1.0; front = here.1.1 })
-on_front x xs u (inr not_here) (inl g) =
+on_front : (x : Stream) (xs : List Stream) (held : StreamId) → Decided (GoesOnHere x held) → Decided (HasHeldMessage xs held) → Decided (HasHeldMessage (x ∷ xs) held)
+on_front x xs held (inl here) behind = inl (record { place = 0; within = omega arith; is = here.0; message = here.1.0; front = here.1.1 })
+on_front x xs held (inr not_here) (inl g) =
     inl (record { place = suc g.place; within = let w = g.within in omega arith; is = g.is; message = g.message; front = g.front })
-on_front x xs u (inr not_here) (inr not_behind) =
-    inr (λ g. elim (here_or_behind x xs u g.place g.message g.within g.is g.front) as (λ z. ⊥) [ inl here ↦ not_here here | inr behind ↦ not_behind behind ])
+on_front x xs held (inr not_here) (inr not_behind) =
+    inr (λ g. elim (here_or_behind x xs held g.place g.message g.within g.is g.front) as (λ z. ⊥) [ inl here ↦ not_here here | inr behind ↦ not_behind behind ])
 
-goes_on_decided : (streams : List Stream) (u : UnderWay) → Decided (HasMessageUnderWay streams u)
-goes_on_decided [] u = inr (λ g. let w = g.within in omega arith)
-goes_on_decided (x ∷ xs) u = on_front x xs u (here_decided x u) (goes_on_decided xs u)
+held_decided : (streams : List Stream) (held : StreamId) → Decided (HasHeldMessage streams held)
+held_decided [] held = inr (λ g. let w = g.within in omega arith)
+held_decided (x ∷ xs) held = on_front x xs held (here_decided x held) (held_decided xs held)
 
-goes_further : (now max : ℕ) (old : SendQueueState) (told : Told) (u : UnderWay) → old.under_way ≡ Some u → HasMessageUnderWay old.streams u → TakesSome now max old told []
-goes_further now max old told u is g =
+goes_further : (now max : ℕ) (old : SendQueueState) (told : Told) (held : StreamId) → old.held ≡ Some held → HasHeldMessage old.streams held → TakesSome now max old told []
+goes_further now max old told held is g =
+    let u : UnderWay = next_progress g.message (stream_at old.streams g.place) in
     record {
       part = fragment u g.message (size_produced max g.message u);
       new = queue_after_producing g.place max g.message u old;
@@ -181,7 +184,8 @@ goes_further now max old told u is g =
         message = g.message;
         under_way = u;
         front = g.front;
-        chosen = chosen_if old.under_way is (refl, refl, g.is);
+        chosen = chosen_if old.held is (refl, g.is);
+        come = refl;
         is = refl;
         left = refl;
         events = refl;
@@ -191,20 +195,20 @@ goes_further now max old told u is g =
       grows = refl;
     }
   where
-    chosen_if : (under_way : Option UnderWay) → under_way ≡ Some u → Chooses now old (Some u) old g.place g.message u → Chooses now old under_way old g.place g.message u
-    chosen_if under_way e chosen = rw e chosen
+    chosen_if : (it : Option StreamId) → it ≡ Some held → Chooses now old (Some held) old g.place g.message → Chooses now old it old g.place g.message
+    chosen_if it e chosen = rw e chosen
 
--- It gives something or nothing, unless the message under way is in no stream.
+-- It gives something or nothing, unless the stream that is held has no message.
 abbrev pub TakingUnlessStuck : ℕ → ℕ → SendQueueState → Told → Type 0
-TakingUnlessStuck now max old told = IsStuck old.under_way old.streams ⊎ Taking now max old told []
+TakingUnlessStuck now max old told = IsStuck old.held old.streams ⊎ Taking now max old told []
 
-taken_by : (now max : ℕ) (old : SendQueueState) (told : Told) (under_way : Option UnderWay) → old.under_way ≡ under_way → TakingUnlessStuck now max old told
+taken_by : (now max : ℕ) (old : SendQueueState) (told : Told) (held : Option StreamId) → old.held ≡ held → TakingUnlessStuck now max old told
 taken_by now max old told None is = inr (taken_after now max old old told [] is none_dropped)
-taken_by now max old told (Some u) is = by_going (goes_on_decided old.streams u)
+taken_by now max old told (Some held) is = by_going (held_decided old.streams held)
   where
-    by_going : Decided (HasMessageUnderWay old.streams u) → TakingUnlessStuck now max old told
-    by_going (inl g) = inr (inl (goes_further now max old told u is g))
+    by_going : Decided (HasHeldMessage old.streams held) → TakingUnlessStuck now max old told
+    by_going (inl g) = inr (inl (goes_further now max old told held is g))
     by_going (inr lost) = inl (rw is lost)
 
 pub taken : (now max : ℕ) (old : SendQueueState) (told : Told) → TakingUnlessStuck now max old told
-taken now max old told = taken_by now max old told old.under_way refl
+taken now max old told = taken_by now max old told old.held refl

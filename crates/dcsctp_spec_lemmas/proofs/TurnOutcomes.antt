@@ -1,11 +1,12 @@
 -- Which stream has its turn, if one has, and how many messages are left.
+use Rattle.std.specs.Prelude.{if◌then◌else◌}
 use Rattle.std.proofs.Common.{◌≡◌, ◌∙◌, ◌⊎◌, inl, inr, ℕ, zero, suc, ◌+◌, ◌-◌, ◌<◌, Bool, true, false, Option, None, Some, List, [], ◌∷◌, length, set, drop, refl, ap, arith}
 use Rattle.std.proofs.lemmas.Bool.Decides.{nat_tests}
 use Rattle.dcsctp_spec.specs.types.declared.sending.Pause.{Pause}
-use Rattle.dcsctp_spec.specs.types.declared.sending.Pause.TheVariants.{Open, Pausing, HandedOut}
 use Rattle.dcsctp_spec.specs.types.declared.sending.Turn.{Turn}
+use Rattle.dcsctp_spec.specs.types.declared.sending.UnderWay.{UnderWay}
 use Rattle.dcsctp_spec.specs.queues.SendQueue.{SendQueueState}
-use Rattle.dcsctp_spec.specs.types.queues.SendStreams.{Waiting, Stream, comes_after, front_of, stream_at, turn_if, turn_of, turns_of, without_front, IsNext}
+use Rattle.dcsctp_spec.specs.types.queues.SendStreams.{Waiting, Stream, comes_after, front_of, stream_at, may_send_on, turn_of, turns_of, without_front, IsNext}
 use Rattle.dcsctp_spec.specs.queues.Sending.{without_rest}
 
 pub by_test : {A : Type 0} → (test : Bool) → (test ≡ true → A) → (test ≡ false → A) → A
@@ -90,15 +91,16 @@ next_turn streams = go (some_in_turn streams)
     go (inl nobody) = inl nobody.no_turns
     go (inr next) = inr next
 
-turn_has : (priority last id : ℕ) (pause : Pause) (messages : List Waiting) (t : Turn) → turn_if priority last id pause messages ≡ Some t → (m : Waiting) × (front_of messages ≡ Some m)
-turn_has priority last id Open [] t e = cc
-turn_has priority last id Open (m ∷ messages) t e = (m, refl)
-turn_has priority last id Pausing messages t e = cc
-turn_has priority last id HandedOut messages t e = cc
+turn_has : (under_way : Option UnderWay) (pause : Pause) (messages : List Waiting) (own t : Turn)
+    → (if may_send_on under_way pause messages then Some own else None) ≡ Some t → (m : Waiting) × (front_of messages ≡ Some m)
+turn_has under_way pause [] own t e = cc
+turn_has under_way pause (m ∷ messages) own t e = (m, refl)
 
 -- A stream with its turn has a message.
 pub next_front : (streams : List Stream) (place : ℕ) → IsNext streams place → (m : Waiting) × (front_of (stream_at streams place).messages ≡ Some m)
-next_front streams place next = let s = stream_at streams place in turn_has s.priority s.last_turn s.id s.pause s.messages next.turn next.is
+next_front streams place next =
+    let s = stream_at streams place in
+    turn_has s.under_way s.pause s.messages (record { priority = s.priority; last_turn = s.last_turn; stream_id = record { 0 = s.id } }) next.turn next.is
 
 -- ---- how many messages wait
 

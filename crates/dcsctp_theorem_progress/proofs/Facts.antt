@@ -9,11 +9,12 @@ use Rattle.dcsctp_spec_lemmas.specs.types.declared.options.Options.{Options}
 use Rattle.dcsctp_spec_lemmas.specs.types.Offer.{offer_of, negotiated_capabilities}
 use Rattle.dcsctp_spec_lemmas.specs.spec.Cookie.{Cookie, cookie_bytes, is_stale, cookie_moment}
 use Rattle.dcsctp_spec_lemmas.specs.spec.Packet.{Introduction, init, init_ack, cookie_echo, cookie_ack}
+use Rattle.dcsctp_spec_lemmas.specs.spec.queues.SendQueue.{empty_queue, queue_restarted}
 use Rattle.dcsctp_spec_lemmas.specs.spec.queues.Transfer.{EndpointQueues, empty_queues}
 use Rattle.dcsctp_spec_lemmas.specs.spec.endpoint.Endpoint.{Endpoint, closed, open_in, established, number_of_pair, secret_with, with_secret}
 use Rattle.dcsctp_spec_lemmas.specs.spec.endpoint.FlushOutcomes.{IsIdle}
 use Rattle.dcsctp_spec_lemmas.specs.spec.endpoint.HandshakeOutcomes.{pair_from, cookie_for, awaits_cookie_ack}
-use Rattle.dcsctp_spec_lemmas.specs.spec.endpoint.CookieEchoOutcomes.{endpoint_established, queues_with, queue_if_kept, queues_kept, is_foreign}
+use Rattle.dcsctp_spec_lemmas.specs.spec.endpoint.CookieEchoOutcomes.{endpoint_established, interleaves, queues_with, queue_if_kept, queues_kept, is_foreign}
 use Rattle.dcsctp_spec_lemmas.specs.spec.association.HandshakeChanges.{introduction_of, held_by_init_ack, new_held}
 use Rattle.dcsctp_spec_lemmas.specs.spec.endpoint.CallTurns.{Transition, after_all}
 use Rattle.dcsctp_spec_lemmas.specs.spec.CookieFits.{FitsPair, FitsCookie}
@@ -22,6 +23,7 @@ use Rattle.dcsctp_spec_runs.specs.Sockets.{packet_at_number}
 use Rattle.dcsctp_theorem_sockets.proofs.HandshakeReads.{counted_at, delivered}
 use Rattle.dcsctp_theorem_sockets.proofs.Idle.{OwesNothing}
 use Rattle.dcsctp_theorem_sockets.proofs.HandshakeTurns.{Good, answer_to}
+use Rattle.dcsctp_theorem_sockets.proofs.NumberedQueues.{idle_once_numbered}
 use Rattle.dcsctp_theorem_progress.proofs.Turns.{init_repeated, answering}
 use Rattle.dcsctp_theorem_progress.proofs.Echoes.{echoing, establishing, connecting_last}
 
@@ -107,11 +109,15 @@ pub owes_none : (e : Endpoint) → e.queues ≡ empty_queues e.options → OwesN
 owes_none e empty = subst (λ (queues : EndpointQueues). OwesNothing queues.transfer) (sym empty) tt
 
 pub idle_waiting : (e : Endpoint) (p : Pair) (theirs : Introduction) (cookie : List ℕ) (word : ℕ) → e.queues ≡ empty_queues e.options → IsIdle (awaits_cookie_ack e p theirs cookie word)
-idle_waiting e p theirs cookie word empty = subst (λ (queues : EndpointQueues). IsIdle (awaits_cookie_ack (record e { queues = queues }) p theirs cookie word)) (sym empty) refl
+idle_waiting e p theirs cookie word empty =
+    subst (λ (queues : EndpointQueues). IsIdle (awaits_cookie_ack (record e { queues = queues }) p theirs cookie word)) (sym empty)
+    (idle_once_numbered (e.options.enable_message_interleaving && theirs.offer.message_interleaving) (queue_restarted (empty_queue e.options)) (awaits_cookie_ack e p theirs cookie word).queues.transfer refl refl)
 
 queue_idle : (follows : Bool) (e : Endpoint) (cookie : Cookie) (word : ℕ) → IsIdle (endpoint_established e cookie (queues_with e cookie (queue_if_kept follows (record e { queues = empty_queues e.options }) cookie)) word)
-queue_idle true e cookie word = refl
-queue_idle false e cookie word = refl
+queue_idle true e cookie word =
+    idle_once_numbered (interleaves e cookie) (queue_restarted (empty_queue e.options)) (queues_with e cookie (empty_queue e.options)).transfer refl refl
+queue_idle false e cookie word =
+    idle_once_numbered (interleaves e cookie) (empty_queue e.options) (queues_with e cookie (empty_queue e.options)).transfer refl refl
 
 pub idle_established : (e : Endpoint) (cookie : Cookie) (word : ℕ) → e.queues ≡ empty_queues e.options → IsIdle (endpoint_established e cookie (queues_kept e cookie) word)
 idle_established e cookie word empty =

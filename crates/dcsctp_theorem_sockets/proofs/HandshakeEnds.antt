@@ -17,6 +17,7 @@ use Rattle.dcsctp_spec_lemmas.specs.spec.endpoint.Turn.{act_input}
 use Rattle.dcsctp_spec_lemmas.specs.spec.endpoint.HandshakeOutcomes.{pair_from, echo_emission, connected_after}
 use Rattle.dcsctp_spec_lemmas.specs.spec.endpoint.CookieEchoOutcomes.{endpoint_established, interleaves, queue_if_kept, queues_with, queues_kept, EstablishAnswers, ResolvedAnswers, EchoedAnswers, resolve_with_flush, cookie_echo_with_flush, establish_outcome}
 use Rattle.dcsctp_spec_lemmas.specs.spec.endpoint.FlushOutcomes.{FlushKind, flush_answered, IsIdle}
+use Rattle.dcsctp_spec_lemmas.specs.spec.queues.SendQueue.{SendQueueState, queue_restarted}
 use Rattle.dcsctp_spec_lemmas.specs.spec.queues.Transfer.{EndpointQueues}
 use Rattle.dcsctp_spec_lemmas.specs.spec.association.CookieEchoChanges.{Resolution, held_by_cookie}
 use Rattle.dcsctp_spec_lemmas.specs.spec.association.HandshakeChanges.{introduction_of, new_held, held_by_init_ack}
@@ -31,6 +32,7 @@ use Rattle.dcsctp_theorem_sockets.specs.Handshake.{IsConnected}
 use Rattle.dcsctp_theorem_sockets.proofs.Bytes.{length_of_cookie, in_cookie}
 use Rattle.dcsctp_theorem_sockets.proofs.HandshakeReads.{counted_at, delivered, IsTaken, Taken, taken}
 use Rattle.dcsctp_theorem_sockets.proofs.HandshakeTurns.{HandshakeLaws, Good, same_tag, not_zero, method_checked, Begins, begins, connecting, taken_as, Answers, answers, answering, waiting, made_cookie, case_at_start, answer_to, awaiting, Echoes, echoes, echoing, sealed}
+use Rattle.dcsctp_theorem_sockets.proofs.NumberedQueues.{numbered_without_streams, idle_once_numbered}
 use Rattle.dcsctp_theorem_sockets.proofs.Sendable.{echo_sendable, ack_sendable}
 use Rattle.dcsctp_theorem_sockets.proofs.TurnsFit.{drawn_fits}
 
@@ -87,8 +89,12 @@ cookie_reads law a b p q good mine own =
 
 -- It is this queue whether or not its numbers start again.
 queue_there_where : (follows : Bool) (a b : Options) (p q : Pair) → queues_with (echoed b q) (made_cookie a b p q) (queue_if_kept follows (echoed b q) (made_cookie a b p q)) ≡ queues_there a b p q
-queue_there_where true a b p q = refl
-queue_there_where false a b p q = refl
+queue_there_where true a b p q =
+    ap (λ (queue : SendQueueState). queues_with (echoed b q) (made_cookie a b p q) queue)
+    (numbered_without_streams (interleaves (echoed b q) (made_cookie a b p q)) (queue_restarted (echoed b q).queues.queue) refl)
+queue_there_where false a b p q =
+    ap (λ (queue : SendQueueState). queues_with (echoed b q) (made_cookie a b p q) queue)
+    (numbered_without_streams (interleaves (echoed b q) (made_cookie a b p q)) (echoed b q).queues.queue refl)
 
 queue_is : (a b : Options) (p q : Pair) → queues_kept (echoed b q) (made_cookie a b p q) ≡ queues_there a b p q
 queue_is a b p q = queue_there_where b.follow_rfc a b p q
@@ -173,6 +179,11 @@ ack_is_taken a b p q good mine port =
       checked = method_checked b.zero_checksum_alternate_error_detection_method.0 a.zero_checksum_alternate_error_detection_method.0;
     }
 
+-- nothing waits then
+pub connected_idle : (a b : Options) (p q : Pair) (tie : ℕ) → IsIdle (connected_after (counted_at (awaited a b p q tie)) p (held_here a b p q))
+connected_idle a b p q tie =
+    idle_once_numbered (awaiting a b p q tie).queues.queue.is_interleaved (queue_restarted (waiting a p).queues.queue) (awaiting a b p q tie).queues.transfer refl refl
+
 pub connects_last : HandshakeLaws → (a b : Options) (p q : Pair) (tie : ℕ) (turns : List Transition) → Good b → FitsPair p → b.remote_port ≡ a.local_port
     → HandleInput (awaited a b p q tie) (emission_bytes (ports_of b) (acknowledgement a b p q)) turns
     → turns ≡ delivered (awaited a b p q tie) p.tag cookie_ack (connecting_last a b p q tie)
@@ -181,7 +192,7 @@ connects_last law a b p q tie turns good mine port input =
     taken law.wire (awaited a b p q tie) b (acknowledgement a b p q).with_checksum p.tag cookie_ack turns (ack_is_taken a b p q good mine port)
     (ack_admitted (cookie_echoed p (held_here a b p q) (cookie_bytes (made_cookie a b p q))) p.tag refl mine.tag_is_not_zero) (none_is_asked a.follow_rfc) (λ e o rests. rests) input in
     taken_as (awaited a b p q tie) p.tag cookie_ack turns h _
-    (cookie_ack_turn_now (counted_at (awaited a b p q tie)) p (held_here a b p q) (cookie_bytes (made_cookie a b p q)) h.outcome refl refl h.comes) refl (refl, refl)
+    (cookie_ack_turn_now (counted_at (awaited a b p q tie)) p (held_here a b p q) (cookie_bytes (made_cookie a b p q)) h.outcome refl (connected_idle a b p q tie) h.comes) refl (refl, refl)
 
 -- ---- in turn
 

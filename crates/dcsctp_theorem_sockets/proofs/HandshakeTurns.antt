@@ -15,7 +15,8 @@ use Rattle.dcsctp_spec_lemmas.specs.spec.Packet.{Introduction, Content, init, in
 use Rattle.dcsctp_spec_lemmas.specs.spec.endpoint.Endpoint.{Endpoint, Core, closed, cookie_wait, fresh_endpoint, own_tag, may_answer, number_of_pair, with_secret, secret_with}
 use Rattle.dcsctp_spec_lemmas.specs.spec.endpoint.Outcome.{Outcome, with_effects_first, quiet, sends, packet_counted, answering as counted, drawing}
 use Rattle.dcsctp_spec_lemmas.specs.spec.endpoint.Turn.{act_input}
-use Rattle.dcsctp_spec_lemmas.specs.spec.endpoint.FlushOutcomes.{allows_packet}
+use Rattle.dcsctp_spec_lemmas.specs.spec.endpoint.FlushOutcomes.{allows_packet, IsIdle}
+use Rattle.dcsctp_spec_lemmas.specs.spec.queues.SendQueue.{queue_restarted}
 use Rattle.dcsctp_spec_lemmas.specs.spec.association.CookieEchoChanges.{Resolution, establish_new, aged_resolution, case_without_peer}
 use Rattle.dcsctp_spec_lemmas.specs.spec.endpoint.CookieEchoOutcomes.{is_last_tag, resolved_now, is_foreign}
 use Rattle.dcsctp_spec_lemmas.specs.spec.endpoint.HandshakeOutcomes.{pair_from, init_emission, awaits_init_ack, init_ack_emission, cookie_for, awaits_cookie_ack, echo_emission, init_outcome, init_answered, init_ack_outcome, connect_outcome}
@@ -31,6 +32,7 @@ use Rattle.dcsctp_spec_runs.proofs.FlushLemmas.{init_ack_turn_now}
 use Rattle.dcsctp_theorem_sockets.specs.Handshake.{AllowHandshake}
 use Rattle.dcsctp_theorem_sockets.proofs.HandshakeReads.{counted_at, delivered, turned_as, Wire, IsTaken, Taken, taken}
 use Rattle.dcsctp_theorem_sockets.proofs.Idle.{OwesNothing}
+use Rattle.dcsctp_theorem_sockets.proofs.NumberedQueues.{idle_once_numbered}
 use Rattle.dcsctp_theorem_sockets.proofs.HandshakeSizes.{init_fits, init_ack_fits, echo_fits}
 use Rattle.dcsctp_theorem_sockets.proofs.Sendable.{init_sendable, init_ack_sendable}
 
@@ -230,13 +232,18 @@ echo_sends a b p q tie good =
     ap (λ (x : Bool). with_effects_first holding (cond x (cond (allows_packet a.max_burst) (sends e words [] emission) (quiet e words [])) (quiet e words []))) (echo_fits e q.tag (made_cookie a b p q) good.allow.mtu)
     ∙ ap (λ (x : Bool). with_effects_first holding (cond x (sends e words [] emission) (quiet e words []))) good.allow.burst
 
+-- nothing waits then
+pub awaiting_idle : (a b : Options) (p q : Pair) (tie : ℕ) → IsIdle (awaiting a b p q tie)
+awaiting_idle a b p q tie =
+    idle_once_numbered (awaiting a b p q tie).queues.queue.is_interleaved (queue_restarted (waiting a p).queues.queue) (awaiting a b p q tie).queues.transfer refl refl
+
 echoes_by : (a b : Options) (p q : Pair) (turns : List Transition) → Good a
     → Taken (waiting a p) p.tag (init_ack (answer_to a b p q) (Some (cookie_bytes (made_cookie a b p q)))) turns → Echoes a b p q turns
 echoes_by a b p q turns good h =
     let e : Endpoint = counted_at (waiting a p) in
     let cookie : List ℕ = cookie_bytes (made_cookie a b p q) in
     let now : (word : ℕ) × (h.outcome ≡ init_ack_outcome e (answer_to a b p q) (Some cookie) (cookie_wait p) word) =
-    init_ack_turn_now e (answer_to a b p q) cookie p h.outcome refl (λ word. refl) h.comes in
+    init_ack_turn_now e (answer_to a b p q) cookie p h.outcome refl (λ word. awaiting_idle a b p q word) h.comes in
     record { tie = now.0; only = taken_as (waiting a p) p.tag (init_ack (answer_to a b p q) (Some cookie)) turns h _ (now.1 ∙ echo_sends a b p q now.0 good) refl (refl, refl) }
 
 pub answer_is_taken : HandshakeLaws → (a b : Options) (p q : Pair) → Good b → FitsPair p → FitsPair q → b.remote_port ≡ a.local_port

@@ -28,6 +28,7 @@ pub mod NewAssociations
 pub mod NoHolding
 mod NoHoldingTurns
 mod NotingAnew
+pub mod NumberedQueues
 mod OpenStreams
 mod PacketMoves
 mod PlainFits

@@ -1,9 +1,8 @@
 -- Streams that aren't to be reset: what a restore makes of the send queue has no others, and giving
 -- messages up keeps it so.
-use Rattle.std.proofs.Common.{◌≡◌, ◌==◌, inl, inr, ℕ, zero, suc, nat_lt, Bool, true, false, if◌then◌else◌, Option, Some, List, [], ◌∷◌, map, filter, length, ◌-◌, slice_set, refl, sym, subst, ap}
+use Rattle.std.proofs.Common.{◌≡◌, ◌==◌, inl, inr, ℕ, zero, suc, nat_lt, Bool, true, false, if◌then◌else◌, List, [], ◌∷◌, map, filter, length, ◌-◌, slice_set, refl, sym, subst, ap}
 use Rattle.std.specs.List.{AllByRecursion}
 use Rattle.dcsctp_spec_lemmas.specs.types.declared.sending.Pause.TheVariants.{Open}
-use Rattle.dcsctp_spec_lemmas.specs.types.declared.sending.UnderWay.{UnderWay}
 use Rattle.dcsctp_spec_lemmas.specs.types.declared.snapshot.HandoverOutgoingStream.{HandoverOutgoingStream}
 use Rattle.dcsctp_spec_lemmas.specs.spec.endpoint.Event.{Event}
 use Rattle.dcsctp_spec_lemmas.specs.types.Snapshot.{SendPart}
@@ -12,10 +11,10 @@ use Rattle.dcsctp_spec_lemmas.specs.spec.queues.Abandoning.{GivesUpFirst}
 use Rattle.dcsctp_spec_lemmas.specs.spec.queues.Filling.{Stage, ClosesMessage, GivesUpItem, StageSteps, none, more}
 use Rattle.dcsctp_spec_lemmas.specs.spec.queues.Items.{Item}
 use Rattle.dcsctp_spec_lemmas.specs.spec.queues.OwnResets.{is_ready, ready_streams, with_used}
-use Rattle.dcsctp_spec_lemmas.specs.spec.queues.QueuedParts.{emptied_stream, queue_emptied, stream_restored, streams_restored, waiting_again, is_part_continued, progress_again, with_rest, with_message_rest, message_restored, messages_restored, queue_restored}
+use Rattle.dcsctp_spec_lemmas.specs.spec.queues.QueuedParts.{emptied_stream, queue_emptied, stream_restored, streams_restored, waiting_again, is_part_continued, progress_again, with_rest, with_message_rest, queue_continued, message_restored, messages_restored, queue_restored}
 use Rattle.dcsctp_spec_lemmas.specs.spec.queues.SendQueue.{SendQueueState, stream_changed, with_stream, is_used, used_streams}
 use Rattle.dcsctp_spec_lemmas.specs.spec.queues.Sending.{without_rest, DiscardsNamed}
-use Rattle.dcsctp_spec_lemmas.specs.types.queues.SendStreams.{Waiting, Stream, stream_at, unused_stream}
+use Rattle.dcsctp_spec_lemmas.specs.types.queues.SendStreams.{Waiting, Stream, stream_with_progress, stream_at, unused_stream}
 
 -- it isn't to be reset
 abbrev pub IsOpen : Stream → Type 0
@@ -26,12 +25,12 @@ AreOpen streams = AllByRecursion IsOpen streams
 
 -- ---- none is ready
 
-none_is_ready : (under_way : Option UnderWay) (streams : List Stream) → AreOpen streams → filter (is_ready under_way) streams ≡ []
-none_is_ready under_way [] are = refl
-none_is_ready under_way (stream ∷ streams) are = rw are.0 (none_is_ready under_way streams are.1)
+none_is_ready : (streams : List Stream) → AreOpen streams → filter is_ready streams ≡ []
+none_is_ready [] are = refl
+none_is_ready (stream ∷ streams) are = rw are.0 (none_is_ready streams are.1)
 
 pub nothing_ready : (queue : SendQueueState) → AreOpen queue.streams → ready_streams queue ≡ []
-nothing_ready queue are = ap (λ (streams : List Stream). map (λ (stream : Stream). stream.id) streams) (none_is_ready queue.under_way queue.streams are)
+nothing_ready queue are = ap (λ (streams : List Stream). map (λ (stream : Stream). stream.id) streams) (none_is_ready queue.streams are)
 
 -- ---- one stream of a list
 
@@ -94,8 +93,9 @@ either_queue false queue other are were = were
 
 message_open : (now : ℕ) (part : QueuedPart) (queue : SendQueueState) → AreOpen queue.streams → AreOpen (message_restored now part queue).streams
 message_open now part queue are =
-    either_queue (is_part_continued part queue) (record (with_message_rest now part (length part.payload - part.remaining_offset) queue) { under_way = Some (progress_again part) })
-    (with_message_rest now part (length part.payload) queue) (with_rest_open now part _ queue are) (with_rest_open now part _ queue are)
+    let rest = with_message_rest now part (length part.payload - part.remaining_offset) queue in
+    either_queue (is_part_continued part queue) (queue_continued part.stream_id (waiting_again now part) (progress_again part) rest) (with_message_rest now part (length part.payload) queue)
+    (changed_open part.stream_id (stream_with_progress (progress_again part)) rest.streams (λ stream is. is) (with_rest_open now part _ queue are)) (with_rest_open now part _ queue are)
 
 messages_open : (now : ℕ) (parts : List QueuedPart) (queue : SendQueueState) → AreOpen queue.streams → AreOpen (messages_restored now parts queue).streams
 messages_open now [] queue are = are

@@ -30,8 +30,8 @@ use Rattle.dcsctp_theorem_sockets.specs.OneSocket.{EndsByAnswer}
 use Rattle.dcsctp_theorem_sockets.specs.Handshake.{AreFitting, AreConnected}
 use Rattle.dcsctp_theorem_sockets.proofs.Deliver.{built, built_reads}
 use Rattle.dcsctp_theorem_sockets.proofs.HandshakeReads.{Wire, IsTaken, alone, counted_at, delivered, is_read}
-use Rattle.dcsctp_theorem_sockets.proofs.HandshakeTurns.{HandshakeLaws, Good, connect_sends, answering, answer_sends, init_is_taken, waiting, made_cookie, case_at_start, answer_to, echoing, echo_sends, answer_is_taken, ack_admitted}
-use Rattle.dcsctp_theorem_sockets.proofs.HandshakeEnds.{none_is_asked, begun_by, answered_by, echoed_by, acknowledged_by, connected_by, answered as answered_once, acknowledgement, establishing, cookie_reads, established_idle, established_sends, echo_is_taken, awaited, held_here, connecting_last, ack_admitted as cookie_ack_admitted, ack_is_taken}
+use Rattle.dcsctp_theorem_sockets.proofs.HandshakeTurns.{HandshakeLaws, Good, awaiting_idle, connect_sends, answering, answer_sends, init_is_taken, waiting, made_cookie, case_at_start, answer_to, echoing, echo_sends, answer_is_taken, ack_admitted}
+use Rattle.dcsctp_theorem_sockets.proofs.HandshakeEnds.{connected_idle, none_is_asked, begun_by, answered_by, echoed_by, acknowledged_by, connected_by, answered as answered_once, acknowledgement, establishing, cookie_reads, established_idle, established_sends, echo_is_taken, awaited, held_here, connecting_last, ack_admitted as cookie_ack_admitted, ack_is_taken}
 use Rattle.dcsctp_theorem_sockets.proofs.HandshakeRuns.{run_of, fitting_sockets_connect}
 use Rattle.dcsctp_theorem_sockets.proofs.Idle.{OwesNothing, still_ends}
 use Rattle.dcsctp_theorem_sockets.proofs.IdleTurns.{init_ack_turn_of, cookie_echo_turn_of, cookie_ack_turn_of}
@@ -171,13 +171,13 @@ handshake_runs law a b w good_a good_b to_b to_a =
     (w.word', w.next', sym (answer_sends a b p w.word' w.next' good_b.allow.mtu)) refl tt refl in
     let third = gives law.wire (waiting a p) b (eqb (agreed_method (offer_of b) (offer_of a)) 0) p.tag (init_ack (answer_to a b p q) (Some bytes)) (echoing a b p q w.tie)
     (answer_is_taken law a b p q good_b own other to_a) (ack_admitted (cookie_wait p) (answer_to a b p q) bytes p.tag refl own.tag_is_not_zero) refl
-    (init_ack_turn_of (counted_at (waiting a p)) (answer_to a b p q) bytes p w.tie (echoing a b p q w.tie) refl refl (sym (echo_sends a b p q w.tie good_a))) refl (refl, refl) refl in
+    (init_ack_turn_of (counted_at (waiting a p)) (answer_to a b p q) bytes p w.tie (echoing a b p q w.tie) refl (awaiting_idle a b p q w.tie) (sym (echo_sends a b p q w.tie good_a))) refl (refl, refl) refl in
     let fourth = gives law.wire (answered_once b q) a true q.tag (cookie_echo bytes) (establishing a b p q w.tie') (echo_is_taken a b p q good_a other to_b) refl refl
     (cookie_echo_turn_of (counted_at (answered_once b q)) q.tag bytes (made_cookie a b p q) w.tie' (establishing a b p q w.tie') refl (cookie_reads law a b p q good_a own other)
     (case_at_start (counted_at (answered_once b q)) a b p q refl refl refl refl other.tag_is_not_zero) (established_idle a b p q w.tie') (sym (established_sends a b p q w.tie' good_b))) refl (refl, refl) refl in
     let fifth = gives law.wire (awaited a b p q w.tie) b (acknowledgement a b p q).with_checksum p.tag cookie_ack (connecting_last a b p q w.tie) (ack_is_taken a b p q good_b own to_a)
     (cookie_ack_admitted (cookie_echoed p (held_here a b p q) bytes) p.tag refl own.tag_is_not_zero) refl
-    (cookie_ack_turn_of (counted_at (awaited a b p q w.tie)) p (held_here a b p q) bytes (connecting_last a b p q w.tie) refl refl refl) refl (refl, refl) (none_is_asked a.follow_rfc) in
+    (cookie_ack_turn_of (counted_at (awaited a b p q w.tie)) p (held_here a b p q) bytes (connecting_last a b p q w.tie) refl (connected_idle a b p q w.tie) refl) refl (refl, refl) (none_is_asked a.follow_rfc) in
     (fifth, (fourth, (third, (second, (first, tt)))))
 
 six_run : HandshakeLaws → (a b : Options) (w : Words) → Good a → Good b → a.remote_port ≡ b.local_port → b.remote_port ≡ a.local_port → SocketRun (record { a = a; b = b }) (six_acts a b w)

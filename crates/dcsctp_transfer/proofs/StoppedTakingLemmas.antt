@@ -92,6 +92,7 @@ sends_next now mid left events drops coming next =
         under_way = next.under_way;
         front = next.front;
         chosen = next.chosen;
+        come = next.come;
         is = refl;
         left = refl;
         events = refl;

@@ -5,6 +5,7 @@
 //! would need a proof, and so would a function for each test.
 mod amounts;
 mod handover;
+mod interleaving;
 mod order;
 mod resets;
 mod restoring;

@@ -8,7 +8,12 @@ use crate::api::handover::*;
 use crate::api::Options;
 
 const MAGIC: u32 = u32::from_be_bytes(*b"dcSn");
-const VERSION: u16 = 1;
+
+/// The version of the format: 2 where several messages are under way, else 1.
+fn version_of(state: &SocketHandoverState) -> u16 {
+    let under_way = state.tx.queued_messages.iter().filter(|it| it.remaining_offset > 0);
+    if under_way.count() > 1 { 2 } else { 1 }
+}
 
 /// The bytes after the snapshot: the options that must be the same, and a check value.
 const SEAL: usize = 18;
@@ -17,7 +22,7 @@ const SEAL: usize = 18;
 pub(crate) fn to_bytes(state: &SocketHandoverState, options: &Options) -> Vec<u8> {
     let mut out = Vec::new();
     MAGIC.write(&mut out);
-    VERSION.write(&mut out);
+    version_of(state).write(&mut out);
     state.socket_state.write(&mut out);
     state.my_verification_tag.write(&mut out);
     state.my_initial_tsn.write(&mut out);
@@ -46,7 +51,8 @@ pub(crate) fn to_bytes(state: &SocketHandoverState, options: &Options) -> Vec<u8
 pub(crate) fn from_bytes(bytes: &[u8]) -> SocketHandoverState {
     let mut rest = &bytes[..bytes.len() - SEAL];
     let from = &mut rest;
-    assert_eq!((u32::read(from), u16::read(from)), (MAGIC, VERSION), "another format");
+    assert_eq!(u32::read(from), MAGIC, "another format");
+    let version = u16::read(from);
     // (the fields are read in this order)
     let state = SocketHandoverState {
         socket_state: HandoverSocketState::read(from),
@@ -59,7 +65,7 @@ pub(crate) fn from_bytes(bytes: &[u8]) -> SocketHandoverState {
         tx: HandoverTransmission::read(from),
         rx: HandoverReceive::read(from),
     };
-    assert!(rest.is_empty(), "another format");
+    assert!(rest.is_empty() && version == version_of(&state), "another format");
     state
 }
 

@@ -1,5 +1,5 @@
 -- How many TSNs an association assigns, by the chunks of data that its sender has sent.
-use Rattle.std.proofs.Common.{◌≡◌, ℕ, Bool, ◌<◌, ◌≤◌, ◌+◌, ◌*◌, ◌^◌, List, [], ◌∷◌, ◌++◌, length, refl, ◌∙◌, ap, arith}
+use Rattle.std.proofs.Common.{◌≡◌, ℕ, ◌<◌, ◌≤◌, ◌+◌, ◌*◌, ◌^◌, List, [], ◌∷◌, ◌++◌, length, refl, ◌∙◌, ap, arith}
 use Rattle.std.specs.Prelude.{Option, None, Some}
 use Rattle.dcsctp_spec.specs.types.declared.options.Options.{Options}
 use Rattle.dcsctp_spec.specs.endpoint.Event.{packets_of_events}
@@ -16,9 +16,9 @@ use Rattle.dcsctp_delivery_directions.specs.sending.ChunkCounts.{chunks_among_pa
 use Rattle.dcsctp_delivery_directions.specs.sending.Stages.{Bears}
 use Rattle.dcsctp_delivery_directions.specs.directions.Directions.{Direction, tsns_in_flight, assigned_count, DirectionStep, queues, sets, prepares, commits, rolls_back, resends, resends_nothing, speaks, asks_again, renews, turns_aside, tracks, defers, flushes, acknowledges, loses, receives, forwards, receives_interleaved, forwards_interleaved, performs, performs_earlier, resets, takes, NoneInFlight, DirectionRun, begins, goes_on, starts}
 use Rattle.dcsctp_delivery_directions.proofs.sending.Acknowledged.{acknowledged_bear, lost_bear}
-use Rattle.dcsctp_delivery_directions.proofs.sending.ChunkCounts.{one_at_most, flushes_assign_few, at_once_same}
+use Rattle.dcsctp_delivery_directions.proofs.sending.ChunkCounts.{flushes_assign_few, at_once_same}
 use Rattle.dcsctp_delivery_directions.proofs.directions.Directions.{run_stands}
-use Rattle.dcsctp_delivery_directions.proofs.directions.Queued.{set_way, all_way}
+use Rattle.dcsctp_delivery_directions.proofs.directions.UnderWays.{KeepWays, queueing_ways, setting_ways, preparing_ways, committed_ways, rolled_back_ways}
 use Rattle.dcsctp_delivery_directions.proofs.directions.Steps.{more_queued}
 use Rattle.dcsctp_delivery_directions.proofs.directions.Standing.{Stands, same_flight, timed_outstanding}
 
@@ -27,9 +27,9 @@ FewSent direction = direction.acknowledged + tsns_of_queues direction.queues ≤
 
 -- ---- what changes the queue alone
 
-way_same : (old new : SendQueueState) (transfer : Option Transfer) → new.under_way ≡ old.under_way → tsns_if_connected new transfer ≡ tsns_if_connected old transfer
-way_same old new None same = ap going same
-way_same old new (Some transfer) same = (let way : going new.under_way ≡ going old.under_way = ap going same in omega (arith, way))
+ways_counted : (old new : SendQueueState) (transfer : Option Transfer) → going new.streams ≡ going old.streams → tsns_if_connected new transfer ≡ tsns_if_connected old transfer
+ways_counted old new None same = refl
+ways_counted old new (Some transfer) same = omega (arith, same)
 
 -- ---- what is sent
 
@@ -46,16 +46,16 @@ module _ (options : Options) (first size : ℕ) (small : first < 2 ^ 32) (old : 
   at_known : (transfer : Transfer) → old.queues.transfer ≡ Some transfer → tsns_of_queues old.queues ≡ tsns_of old.queues.queue transfer.retransmission.outstanding.items
   at_known transfer known = ap (λ (t : Option Transfer). tsns_if_connected old.queues.queue t) known
 
-  by_queue : (queue : SendQueueState) → queue.under_way ≡ old.queues.queue.under_way → old.acknowledged + tsns_if_connected queue old.queues.transfer ≤ 1 + 2 * chunks_among_packets old.sent
-  by_queue queue same = (let way = way_same old.queues.queue queue old.queues.transfer same in omega (arith, way, h))
+  by_queue : (queue : SendQueueState) → KeepWays old.queues.queue.streams queue.streams → old.acknowledged + tsns_if_connected queue old.queues.transfer ≤ 1 + 2 * chunks_among_packets old.sent
+  by_queue queue ways = (let same = ways_counted old.queues.queue queue old.queues.transfer ways.count in omega (arith, same, h))
 
   stepped_few : (new : Direction) → DirectionStep old new → FewSent new
   unfolding standing
-  stepped_few _ (queues now sending fits some) = by_queue (sending_queued now sending old.queues.queue) refl
-  stepped_few _ (sets setting fits) = by_queue (set_in_queue setting old.queues.queue) (set_way setting old.queues.queue)
-  stepped_few _ (prepares ids fit kept) = by_queue (prepared_all ids old.queues.queue) (all_way ids old.queues.queue)
-  stepped_few _ (commits go_on) = by_queue (queue_committed old.queues.queue) refl
-  stepped_few _ (rolls_back unmixed) = by_queue (queue_rolled_back old.queues.queue) refl
+  stepped_few _ (queues now sending fits some) = by_queue (sending_queued now sending old.queues.queue) (queueing_ways now sending old.queues.queue)
+  stepped_few _ (sets setting fits) = by_queue (set_in_queue setting old.queues.queue) (setting_ways setting old.queues.queue)
+  stepped_few _ (prepares ids fit kept) = by_queue (prepared_all ids old.queues.queue) (preparing_ways ids old.queues.queue)
+  stepped_few _ (commits go_on) = by_queue (queue_committed old.queues.queue) (committed_ways old.queues.queue)
+  stepped_few _ (rolls_back unmixed) = by_queue (queue_rolled_back old.queues.queue) (rolled_back_ways old.queues.queue)
   stepped_few _ (flushes e draft answers same no_data allowed) =
       let assigns = flushes_assign_few e draft answers allowed in
       let before : tsns_of_queues e.queues ≡ tsns_of_queues old.queues = ap tsns_of_queues same in
@@ -105,21 +105,21 @@ module _ (options : Options) (first size : ℕ) (small : first < 2 ^ 32) (old : 
 
 -- ---- a run
 
-none_sent : (first acknowledged : ℕ) (is_interleaved : Bool) (queue : SendQueueState) (transfer : Option Transfer) → NoneInFlight first is_interleaved transfer → acknowledged ≡ 0 → acknowledged + tsns_if_connected queue transfer ≤ 1
-none_sent first acknowledged is_interleaved queue None none zero = (let way = one_at_most queue.under_way in omega (arith, way, zero))
-none_sent first acknowledged is_interleaved queue (Some transfer) none zero =
-    let way = one_at_most queue.under_way in
+none_sent : (first acknowledged : ℕ) (queue : SendQueueState) (transfer : Option Transfer) → NoneInFlight first queue transfer → acknowledged ≡ 0 → acknowledged + tsns_if_connected queue transfer ≤ 1
+none_sent first acknowledged queue None none zero = omega (arith, zero)
+none_sent first acknowledged queue (Some transfer) none zero =
     let size : length transfer.retransmission.outstanding.items ≡ 0 = ap (λ (l : List Item). length l) none.1 in
-    omega (arith, way, size, zero)
+    let rests = none.3 in
+    omega (arith, rests, size, zero)
 
 few_sent : (options : Options) (first size : ℕ) (direction : Direction) → first < 2 ^ 32 → length direction.queued < 2 ^ 64 → DirectionRun options first size direction → FewSent direction
 few_sent options first size _ small few (begins direction b) =
-    (let none = none_sent first direction.acknowledged direction.queues.queue.is_interleaved direction.queues.queue direction.queues.transfer b.flight b.acknowledged in omega (arith, none))
+    (let none = none_sent first direction.acknowledged direction.queues.queue direction.queues.transfer b.flight b.acknowledged in omega (arith, none))
 few_sent options first size _ small few (goes_on old direction run step) =
     let before : length old.queued < 2 ^ 64 = omega (arith, few, more_queued old direction step) in
     stepped_few options first size small old run before (few_sent options first size old small before run) direction step
 few_sent options first size _ small few (starts old queued below beginning run awaited fit waits none numbered) =
-    (let nothing = none_sent first old.acknowledged below.queue.is_interleaved below.queue below.transfer none awaited.acknowledged in omega (arith, nothing))
+    (let nothing = none_sent first old.acknowledged below.queue below.transfer none awaited.acknowledged in omega (arith, nothing))
 
 assigned_below : (queue : SendQueueState) (transfer : Option Transfer) → tsns_in_flight transfer ≤ tsns_if_connected queue transfer
 assigned_below queue None = omega arith

@@ -216,6 +216,6 @@ unfolding begun_stands stands_anew
 begun_history options first size direction small b = refl
 
 pub started_history : (first : ℕ) (old : Direction) (queued : List Message) (below : EndpointQueues) (beginning : Beginning) (s : Stands first old) (awaited : IsAwaited old) (small : first < 2 ^ 32) (fit : AllByRecursion Fits queued) (waits : QueueWaits queued below.queue)
-    (none : NoneInFlight first below.queue.is_interleaved below.transfer) → (started_stands first old queued below beginning s awaited small fit waits none).history ≡ new_history waits.floors
+    (none : NoneInFlight first below.queue below.transfer) → (started_stands first old queued below beginning s awaited small fit waits none).history ≡ new_history waits.floors
 unfolding started_stands stands_anew
 started_history first old queued below beginning s awaited small fit waits none = refl

@@ -9,6 +9,7 @@ use Rattle.dcsctp_spec.specs.queues.Items.{Item}
 use Rattle.dcsctp_spec.specs.types.queues.Messages.{MessageContent}
 use Rattle.dcsctp_spec.specs.queues.Reassembly.{ReassemblyState}
 use Rattle.dcsctp_spec.specs.queues.Tracker.{TrackerState, new_tracker}
+use Rattle.dcsctp_spec.specs.queues.SendQueue.{SendQueueState}
 use Rattle.dcsctp_spec.specs.queues.Transfer.{Transfer, EndpointQueues}
 use Rattle.dcsctp_delivery_directions.specs.sending.Log.{Fits, Message, Slot, History, new_history}
 use Rattle.dcsctp_delivery_directions.specs.sending.Flushes.{PacketsSay, InFlight, PendsIfConnected}
@@ -25,14 +26,14 @@ use Rattle.dcsctp_delivery_directions.proofs.directions.Steps.{more_queued, step
 
 -- ---- nothing was sent yet
 
-module _ (first : ℕ) (direction : Direction) (small : first < 2 ^ 32) (zero_gone : direction.acknowledged ≡ 0) (none : NoneInFlight first direction.queues.queue.is_interleaved direction.queues.transfer)
+module _ (first : ℕ) (direction : Direction) (small : first < 2 ^ 32) (zero_gone : direction.acknowledged ≡ 0) (none : NoneInFlight first direction.queues.queue direction.queues.transfer)
     (waits : QueueWaits direction.queued direction.queues.queue) where
   abbrev pub anew : History
   anew = new_history waits.floors
 
-  pub begun_flight : (is_interleaved : Bool) (transfer : Option Transfer) → NoneInFlight first is_interleaved transfer → InFlight anew first direction.acknowledged transfer
-  begun_flight is_interleaved None is = omega (arith, zero_gone)
-  begun_flight is_interleaved (Some transfer) is =
+  pub begun_flight : (queue : SendQueueState) (transfer : Option Transfer) → NoneInFlight first queue transfer → InFlight anew first direction.acknowledged transfer
+  begun_flight queue None is = omega (arith, zero_gone)
+  begun_flight queue (Some transfer) is =
       record {
         tsn = (let tsn = is.0 in omega (arith, tsn, zero_gone, small));
         count = (let few : length transfer.retransmission.outstanding.items ≡ 0 = ap (λ (l : List Item). length l) is.1 in omega (arith, few, zero_gone));
@@ -56,13 +57,13 @@ module _ (first : ℕ) (direction : Direction) (small : first < 2 ^ 32) (zero_go
   begun_pends None = tt
   begun_pends (Some transfer) = record { next = λ mark has. absurd has; none = λ begun none. refl }
 
-  pub begun_kind : (is_interleaved : Bool) (transfer : Option Transfer) → NoneInFlight first is_interleaved transfer → IsOfKind is_interleaved transfer
-  begun_kind is_interleaved None is = tt
-  begun_kind is_interleaved (Some transfer) is = is.2
+  pub begun_kind : (queue : SendQueueState) (transfer : Option Transfer) → NoneInFlight first queue transfer → IsOfKind queue.is_interleaved transfer
+  begun_kind queue None is = tt
+  begun_kind queue (Some transfer) is = is.2
 
   unfoldable pub stands_anew : AllByRecursion Fits direction.queued → direction.sent ≡ [] → direction.asking ≡ nothing_asked → (length anew.log < 2 ^ 31 → Arrived first anew direction) → Stands first direction
   stands_anew fit sent asks arrives =
-      let flight = begun_flight direction.queues.queue.is_interleaved direction.queues.transfer none in
+      let flight = begun_flight direction.queues.queue direction.queues.transfer none in
       record {
         history = anew;
         fit = fit;
@@ -74,7 +75,7 @@ module _ (first : ℕ) (direction : Direction) (small : first < 2 ^ 32) (zero_go
           pends = begun_pends direction.queues.transfer;
           marks = λ mark has. absurd has;
           numbers = waits.holds.numbers;
-          kind = begun_kind direction.queues.queue.is_interleaved direction.queues.transfer none;
+          kind = begun_kind direction.queues.queue direction.queues.transfer none;
         };
         packets = subst (λ (l : List Emission). PacketsSay anew first direction.acknowledged l) (sym sent) tt;
         count = counted_flight anew first direction.acknowledged direction.queues.transfer flight;
@@ -127,7 +128,7 @@ module _ (first : ℕ) (old : Direction) (queued : List Message) (below : Endpoi
         cleared = λ is performed. absurd (not_performed old.asking awaited.asking performed);
       }
 
-  unfoldable pub started_stands : first < 2 ^ 32 → AllByRecursion Fits queued → QueueWaits queued below.queue → NoneInFlight first below.queue.is_interleaved below.transfer → Stands first (record old { queued = queued; queues = below; beginning = beginning })
+  unfoldable pub started_stands : first < 2 ^ 32 → AllByRecursion Fits queued → QueueWaits queued below.queue → NoneInFlight first below.queue below.transfer → Stands first (record old { queued = queued; queues = below; beginning = beginning })
   started_stands small fit waits none =
       let direction : Direction = record old { queued = queued; queues = below; beginning = beginning } in
       stands_anew first direction small awaited.acknowledged none waits fit awaited.sent awaited.asking (λ little. arrived_anew waits.floors (s.arrived (omega (arith, empty))))

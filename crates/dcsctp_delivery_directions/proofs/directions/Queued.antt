@@ -1,18 +1,16 @@
 -- The steps of a sender's queue: messages, settings, and resets that end.
 use Rattle.std.proofs.lemmas.Bool.Decides.{leb_tells}
 use Rattle.std.proofs.Common.{◌≡◌, ℕ, zero, suc, Bool, true, false, ◌<◌, ◌≤◌, ◌+◌, ◌^◌, List, [], ◌∷◌, length, take, refl, sym, ◌∙◌, arith, subst, inl, inr}
-use Rattle.std.specs.Prelude.{◌⊎◌, Option, if◌then◌else◌}
+use Rattle.std.specs.Prelude.{◌⊎◌}
 use Rattle.std.specs.List.{AllByRecursion}
-use Rattle.dcsctp_spec.specs.queues.OwnResets.{is_open_pause, with_used, queue_with_prepared, prepared_open, prepared_all, queue_committed, queue_rolled_back}
-use Rattle.dcsctp_spec.specs.queues.SendQueue.{SendQueueState, queue_stream}
+use Rattle.dcsctp_spec.specs.queues.OwnResets.{prepared_all, queue_committed, queue_rolled_back}
+use Rattle.dcsctp_spec.specs.queues.SendQueue.{SendQueueState}
 use Rattle.dcsctp_spec.specs.endpoint.MessageOutcomes.{Sending, sending_queued}
-use Rattle.dcsctp_spec.specs.types.Setting.{Setting, stream_priority, stream_low_threshold, longest_message}
+use Rattle.dcsctp_spec.specs.types.Setting.{Setting}
 use Rattle.dcsctp_spec.specs.endpoint.SettingOutcomes.{set_in_queue}
-use Rattle.dcsctp_spec.specs.types.declared.sending.UnderWay.{UnderWay}
 use Rattle.dcsctp_delivery_directions.specs.sending.Places.{HasEntry}
 use Rattle.dcsctp_delivery_directions.specs.sending.Log.{Fits, Mark, Resets}
 use Rattle.dcsctp_delivery_directions.specs.sending.Numbers.{CountsSsns, CountsByKind, IsOfKind, is_handed_out, stream_named}
-use Rattle.dcsctp_delivery_directions.specs.sending.Stages.{AreMarks}
 use Rattle.dcsctp_delivery_directions.specs.sending.Turns.{begun_on}
 use Rattle.dcsctp_delivery_directions.specs.sending.Queueing.{QueueHolds, SettingFits, message_of, floors_raised}
 use Rattle.dcsctp_delivery_directions.specs.receiving.Clear.{IsClear, IsOver, Unsent}
@@ -26,26 +24,9 @@ use Rattle.dcsctp_delivery_directions.proofs.receiving.Growing.{received_more, w
 use Rattle.dcsctp_delivery_directions.proofs.receiving.Raising.{raising_keeps}
 use Rattle.dcsctp_delivery_directions.proofs.sending.Extended.{packets_later}
 use Rattle.dcsctp_delivery_directions.proofs.sending.Raised.{extends_floors, flight_floors, pends_floors, marks_floors}
+use Rattle.dcsctp_delivery_directions.proofs.directions.UnderWays.{KeepWays, queueing_ways, setting_ways, preparing_ways, committed_ways, rolled_back_ways, marks_kept}
 use Rattle.dcsctp_delivery_directions.proofs.directions.Cleared.{too_great, Fewer, cleared_fewer, quiet_fewer}
 use Rattle.dcsctp_delivery_directions.proofs.directions.Standing.{AreQuiet, IsCleared, Stands, cut_queued}
-
--- ---- the message under way stays
-
-pub set_way : (setting : Setting) (queue : SendQueueState) → (set_in_queue setting queue).under_way ≡ queue.under_way
-set_way (stream_priority id priority) queue = refl
-set_way (stream_low_threshold id bytes) queue = refl
-set_way (longest_message bytes) queue = refl
-
-prepared_way : (id : ℕ) (queue : SendQueueState) → (queue_with_prepared id queue).under_way ≡ queue.under_way
-prepared_way id queue = go (is_open_pause (queue_stream (with_used id queue) id).pause)
-  where
-    go : (b : Bool) → (if b then prepared_open id (with_used id queue) else with_used id queue).under_way ≡ queue.under_way
-    go true = refl
-    go false = refl
-
-pub all_way : (ids : List ℕ) (queue : SendQueueState) → (prepared_all ids queue).under_way ≡ queue.under_way
-all_way [] queue = refl
-all_way (id ∷ ids) queue = all_way ids (queue_with_prepared id queue) ∙ prepared_way id queue
 
 -- ---- the only reset that has no end
 
@@ -67,7 +48,7 @@ module _ (first : ℕ) (old : Direction) (s : Stands first old) where
   now_queues = record { queue_holds = s.queues.queue_holds; next = s.next; numbers = s.queues.numbers }
 
   -- the queue is another one
-  module _ (queue : SendQueueState) (kind : queue.is_interleaved ≡ old.queues.queue.is_interleaved) (way : queue.under_way ≡ old.queues.queue.under_way) (fewer : Fewer queue.streams old.queues.queue.streams) where
+  module _ (queue : SendQueueState) (kind : queue.is_interleaved ≡ old.queues.queue.is_interleaved) (ways : KeepWays old.queues.queue.streams queue.streams) (fewer : Fewer queue.streams old.queues.queue.streams) where
     unfoldable pub stepped_queue : (out : ℕ) → AreQuiet s.history out queue.streams → QueueHolds old.queued s.history queue
         → Stands first (record old { queues = record old.queues { queue = queue }; asking = record old.asking { out = out } })
     stepped_queue out quiet q =
@@ -80,7 +61,7 @@ module _ (first : ℕ) (old : Direction) (s : Stands first old) where
             cut = s.queues.cut;
             flight = s.queues.flight;
             pends = s.queues.pends;
-            marks = subst (λ (u : Option UnderWay). AreMarks s.history first u) (sym way) s.queues.marks;
+            marks = marks_kept s.history first old.queues.queue.streams queue.streams ways s.queues.marks;
             numbers = q.numbers;
             kind = subst (λ (b : Bool). IsOfKind b old.queues.transfer) (sym kind) s.queues.kind;
           };
@@ -115,7 +96,7 @@ module _ (first : ℕ) (old : Direction) (s : Stands first old) where
           cut = cut_queued old.queued (message_of sending) s.history s.queues.cut;
           flight = s.queues.flight;
           pends = s.queues.pends;
-          marks = s.queues.marks;
+          marks = marks_kept s.history first old.queues.queue.streams (sending_queued now sending old.queues.queue).streams (queueing_ways now sending old.queues.queue) s.queues.marks;
           numbers = q.numbers;
           kind = s.queues.kind;
         };
@@ -137,23 +118,23 @@ module _ (first : ℕ) (old : Direction) (s : Stands first old) where
   stepped_sets setting fits =
       let queue : SendQueueState = set_in_queue setting old.queues.queue in
       let kind = setting_kind setting old.queues.queue in
-      let way = set_way setting old.queues.queue in
+      let ways = setting_ways setting old.queues.queue in
       let fewer : Fewer queue.streams old.queues.queue.streams = setting_handed setting old.queues.queue in
-      stepped_queue queue kind way fewer old.asking.out (stays_quiet queue kind way fewer) (setting_hold old.queued s.history setting old.queues.queue fits now_queues)
+      stepped_queue queue kind ways fewer old.asking.out (stays_quiet queue kind ways fewer) (setting_hold old.queued s.history setting old.queues.queue fits now_queues)
 
   unfoldable pub stepped_prepares : (ids : List ℕ) → AllByRecursion (λ id. id < 2 ^ 16) ids → Stands first (record old { queues = record old.queues { queue = prepared_all ids old.queues.queue } })
   stepped_prepares ids fit =
       let queue : SendQueueState = prepared_all ids old.queues.queue in
       let kind = preparing_kind ids old.queues.queue in
-      let way = all_way ids old.queues.queue in
+      let ways = preparing_ways ids old.queues.queue in
       let fewer : Fewer queue.streams old.queues.queue.streams = preparing_handed ids old.queues.queue in
-      stepped_queue queue kind way fewer old.asking.out (stays_quiet queue kind way fewer) (preparing_hold old.queued s.history ids old.queues.queue fit now_queues)
+      stepped_queue queue kind ways fewer old.asking.out (stays_quiet queue kind ways fewer) (preparing_hold old.queued s.history ids old.queues.queue fit now_queues)
 
   -- ---- a reset that ends
 
   unfoldable pub stepped_rolls_back : Stands first (record old { queues = record old.queues { queue = queue_rolled_back old.queues.queue }; asking = all_ended old.asking })
   stepped_rolls_back =
-      stepped_queue (queue_rolled_back old.queues.queue) refl refl (λ id handed. absurd (rolled_back_handed old.queues.queue id handed)) 0 (λ id handed. absurd (rolled_back_handed old.queues.queue id handed))
+      stepped_queue (queue_rolled_back old.queues.queue) refl (rolled_back_ways old.queues.queue) (λ id handed. absurd (rolled_back_handed old.queues.queue id handed)) 0 (λ id handed. absurd (rolled_back_handed old.queues.queue id handed))
       (rolling_back_hold old.queued s.history old.queues.queue now_queues)
 
   -- a stream that is handed out was never used in the association, if no reset of it was begun in that
@@ -170,10 +151,10 @@ module _ (first : ℕ) (old : Direction) (s : Stands first old) where
       among mark (suc out) (m ∷ marks) has = elim has [ inl e ↦ inl e | inr rest ↦ inr (among mark out marks rest) ]
 
   -- SSNs are counted on
-  pub ssns_ended : CountsSsns s.history old.queues.queue.streams old.queues.queue.under_way → CountsSsns s.history (queue_committed old.queues.queue).streams old.queues.queue.under_way
+  pub ssns_ended : CountsSsns s.history old.queues.queue.streams old.queues.queue.held → CountsSsns s.history (queue_committed old.queues.queue).streams old.queues.queue.held
   ssns_ended c =
       record {
-        turns = λ id start. ssns_committed id s.history.log old.queues.queue.streams old.queues.queue.under_way s.queues.numbers.kept (unused_so id start.none) (c.turns id start);
+        turns = λ id start. ssns_committed id s.history.log old.queues.queue.streams (unused_so id start.none) (c.turns id start);
         closes = c.closes;
         rests = c.rests;
       }
@@ -181,11 +162,11 @@ module _ (first : ℕ) (old : Direction) (s : Stands first old) where
   unfoldable pub commits_plain : old.queues.queue.is_interleaved ≡ false → Stands first (record old { queues = record old.queues { queue = queue_committed old.queues.queue }; asking = all_ended old.asking })
   commits_plain is =
       let q = committing_hold old.queued s.history old.queues.queue now_queues in
-      let counts : CountsByKind old.queues.queue.is_interleaved s.history (queue_committed old.queues.queue).streams old.queues.queue.under_way =
-      subst (λ (b : Bool). CountsByKind b s.history (queue_committed old.queues.queue).streams old.queues.queue.under_way) (sym is)
-      (ssns_ended (subst (λ (b : Bool). CountsByKind b s.history old.queues.queue.streams old.queues.queue.under_way) is s.queues.numbers.counts)) in
-      stepped_queue (queue_committed old.queues.queue) refl refl (λ id handed. absurd (committed_handed old.queues.queue id handed)) 0 (λ id handed. absurd (committed_handed old.queues.queue id handed))
-      (record { queue_holds = q.queue_holds; next = q.next; numbers = record { kinds = q.numbers.kinds; counts = counts; kept = q.numbers.kept } })
+      let counts : CountsByKind old.queues.queue.is_interleaved s.history (queue_committed old.queues.queue).streams old.queues.queue.held =
+      subst (λ (b : Bool). CountsByKind b s.history (queue_committed old.queues.queue).streams old.queues.queue.held) (sym is)
+      (ssns_ended (subst (λ (b : Bool). CountsByKind b s.history old.queues.queue.streams old.queues.queue.held) is s.queues.numbers.counts)) in
+      stepped_queue (queue_committed old.queues.queue) refl (committed_ways old.queues.queue) (λ id handed. absurd (committed_handed old.queues.queue id handed)) 0 (λ id handed. absurd (committed_handed old.queues.queue id handed))
+      (record { queue_holds = q.queue_holds; next = q.next; numbers = record { kinds = q.numbers.kinds; counts = counts; kept = q.numbers.kept; whole = q.numbers.whole } })
 
   -- the receiver has performed the reset
   pub is_over : old.asking.out ≤ 1 → IsCleared s.history first old.tracker.cumulative old.queues.queue.streams old.reassembly → (id : ℕ) → is_handed_out (stream_named id old.queues.queue.streams).pause ≡ true
@@ -218,7 +199,7 @@ module _ (first : ℕ) (old : Direction) (s : Stands first old) where
           cut = s.queues.cut;
           flight = flight_floors floors s.history first old.acknowledged old.queues.transfer s.queues.flight;
           pends = pends_floors floors s.history old.queues.transfer s.queues.pends;
-          marks = marks_floors floors s.history first old.queues.queue.under_way s.queues.marks;
+          marks = marks_kept (floors_raised old.queues.queue.streams s.history) first old.queues.queue.streams (queue_committed old.queues.queue).streams (committed_ways old.queues.queue) (marks_floors floors s.history first old.queues.queue.streams s.queues.marks);
           numbers = q.numbers;
           kind = s.queues.kind;
         };

@@ -1,14 +1,14 @@
 -- A stream that is sent by epochs stays so while nothing is queued, sent or asked for on it.
-use Rattle.std.proofs.Common.{◌≡◌, ℕ, Bool, ◌≤◌, List, drop, refl, sym, ◌∙◌, ap, arith, subst}
-use Rattle.std.specs.Prelude.{Option, None, Some}
-use Rattle.dcsctp_spec.specs.types.declared.sending.UnderWay.{UnderWay}
+use Rattle.std.proofs.Common.{◌≡◌, ℕ, Bool, ◌≤◌, List, refl, sym, ◌∙◌, ap, arith, subst}
+use Rattle.std.specs.Prelude.{Option, None, Some, is_some}
 use Rattle.dcsctp_spec.specs.types.queues.SendStreams.{Waiting, front_of}
-use Rattle.dcsctp_spec.specs.queues.OwnResets.{is_open_pause, is_under_way, count_under_way}
+use Rattle.dcsctp_spec.specs.queues.OwnResets.{is_open_pause}
 use Rattle.dcsctp_spec.specs.queues.SendQueue.{SendQueueState}
 use Rattle.dcsctp_delivery_directions.specs.sending.Places.{at_place}
 use Rattle.dcsctp_delivery_directions.specs.sending.Log.{Piece, Slot, History}
 use Rattle.dcsctp_delivery_directions.specs.sending.Numbers.{stream_named, IsCurrent}
 use Rattle.dcsctp_delivery_directions.specs.epochs.Sending.{AllFrom, SendsFrom, EpochBounds, HaltsIfAsked, SendsByEpoch}
+use Rattle.dcsctp_delivery_directions.proofs.epochs.Feeding.{unbegun_same}
 use Rattle.dcsctp_delivery_directions.proofs.epochs.Named.{IsUnmoved}
 
 -- The same was sent, and no floor was raised.
@@ -26,7 +26,7 @@ module _ (old new : History) (alike : IsAlike old new) where
   was_current : (f : Piece) → IsCurrent new f → IsCurrent old f
   was_current f is = subst (λ (floors : ℕ → Bool → ℕ). floors f.message.stream f.message.is_unordered ≤ f.mid) alike.floors is
 
-  module _ (queue later : SendQueueState) (id : ℕ) (same : later.under_way ≡ queue.under_way) (unmoves : IsUnmoved (stream_named id queue.streams) (stream_named id later.streams)) where
+  module _ (queue later : SendQueueState) (id : ℕ) (unmoves : IsUnmoved (stream_named id queue.streams) (stream_named id later.streams)) where
     from_stays : (place : ℕ) → SendsFrom old queue id place → SendsFrom new later id place
     from_stays place f =
         record {
@@ -40,9 +40,8 @@ module _ (old new : History) (alike : IsAlike old new) where
         let s = stops (ap is_open_pause (sym unmoves.pause) ∙ paused) in
         record {
           sent = λ n g at on. s.sent n g (was_sent n g at) on;
-          going = λ w is front. s.going w (ap (is_under_way id) (sym same) ∙ is) (ap front_of (sym unmoves.messages) ∙ front);
-          rest = subst (λ (u : Option UnderWay). AllFrom place (drop (count_under_way id u) (stream_named id later.streams).messages)) (sym same)
-              (subst (λ (l : List Waiting). AllFrom place (drop (count_under_way id queue.under_way) l)) (sym unmoves.messages) s.rest);
+          going = λ w is front. s.going w (ap is_some (sym unmoves.under_way) ∙ is) (ap front_of (sym unmoves.messages) ∙ front);
+          rest = subst (λ (l : List Waiting). AllFrom place l) (sym (unbegun_same (stream_named id queue.streams) (stream_named id later.streams) unmoves.under_way unmoves.messages)) s.rest;
         }
         )
 

@@ -1,12 +1,10 @@
 -- The end of a reset leaves a stream that is sent by epochs so: the next epoch has begun.
-use Rattle.std.proofs.Common.{◌≡◌, ℕ, Bool, true, false, ◌≤◌, ◌+◌, ◌*◌, ◌^◌, List, length, drop, refl, sym, ◌∙◌, ap, arith, subst, inl, inr}
-use Rattle.std.specs.Prelude.{Option, None, Some, if◌then◌else◌}
-use Rattle.std.proofs.lemmas.Bool.Decides.{eqb_tells}
+use Rattle.std.proofs.Common.{◌≡◌, ℕ, Bool, true, false, ◌≤◌, ◌+◌, ◌*◌, ◌^◌, List, length, drop, refl, sym, ◌∙◌, ap, arith, subst}
+use Rattle.std.specs.Prelude.{Option, None, Some, is_some, if◌then◌else◌}
 use Rattle.dcsctp_spec.specs.types.declared.sending.Pause.{Pause}
 use Rattle.dcsctp_spec.specs.types.declared.sending.Pause.TheVariants.{Open, Pausing, HandedOut}
-use Rattle.dcsctp_spec.specs.types.declared.sending.UnderWay.{UnderWay}
 use Rattle.dcsctp_spec.specs.types.queues.SendStreams.{Waiting, Stream, front_of, unused_stream, committed_stream}
-use Rattle.dcsctp_spec.specs.queues.OwnResets.{is_open_pause, is_under_way, count_under_way, queue_committed}
+use Rattle.dcsctp_spec.specs.queues.OwnResets.{is_open_pause, queue_committed}
 use Rattle.dcsctp_spec.specs.queues.SendQueue.{SendQueueState}
 use Rattle.dcsctp_delivery_directions.specs.sending.Places.{at_place}
 use Rattle.dcsctp_delivery_directions.specs.sending.Log.{Piece, History}
@@ -15,6 +13,7 @@ use Rattle.dcsctp_delivery_directions.specs.sending.Queueing.{floors_raised}
 use Rattle.dcsctp_delivery_directions.proofs.sending.StreamsNamed.{found_mapped}
 use Rattle.dcsctp_delivery_directions.proofs.order.Raised.{none_current_now}
 use Rattle.dcsctp_delivery_directions.specs.epochs.Sending.{AllFrom, EpochBounds, newest_ended, asked_ended, is_open, HaltsIfAsked, SendsByEpoch, IsKnown}
+use Rattle.dcsctp_delivery_directions.proofs.epochs.Feeding.{unbegun_same}
 use Rattle.dcsctp_delivery_directions.proofs.epochs.Named.{IsUnmoved, unmoved}
 
 -- The stream is open again if it was handed out.
@@ -32,26 +31,25 @@ committing_named queue id =
     one_id s HandedOut is = rw is refl
 
     one : (s : Stream) (p : Pause) → s.pause ≡ p → IsEndedAs s (committed_stream s)
-    one s Open is = still (ap is_handed_out is) (record { messages = rw is refl; pause = rw is refl })
-    one s Pausing is = still (ap is_handed_out is) (record { messages = rw is refl; pause = rw is refl })
+    one s Open is = still (ap is_handed_out is) (record { messages = rw is refl; under_way = rw is refl; pause = rw is refl })
+    one s Pausing is = still (ap is_handed_out is) (record { messages = rw is refl; under_way = rw is refl; pause = rw is refl })
     one s HandedOut is = ended (ap is_handed_out is) (rw is refl) (rw is refl)
 
 -- No message of a stream that is handed out is under way.
-not_under_way : (id : ℕ) (streams : List Stream) (u : Option UnderWay) → IsUnderWayKept streams u → is_handed_out (stream_named id streams).pause ≡ true → is_under_way id u ≡ false
-not_under_way id streams None kept handed = refl
-not_under_way id streams (Some u) kept handed =
-    elim (eqb_tells u.stream_id.0 id) [
-      | inr e ↦ e.0
-      | inl e ↦ absurd (let no : true ≡ false = sym handed ∙ subst (λ (k : ℕ). is_handed_out (stream_named k streams).pause ≡ false) e.1 kept in cc)
-    ]
+not_under_way : (id : ℕ) (streams : List Stream) → IsUnderWayKept streams → is_handed_out (stream_named id streams).pause ≡ true → is_some (stream_named id streams).under_way ≡ false
+not_under_way id streams kept handed = go (is_some (stream_named id streams).under_way) refl
+  where
+    go : (b : Bool) → is_some (stream_named id streams).under_way ≡ b → is_some (stream_named id streams).under_way ≡ false
+    go true is = absurd (let no : true ≡ false = sym handed ∙ kept id is in cc)
+    go false is = is
 
-pub committing_by_epoch : (queue : SendQueueState) (history : History) (count id : ℕ) (asked : ℕ → EpochBounds) → CountsMessages history queue.streams queue.under_way → IsUnderWayKept queue.streams queue.under_way → SendsByEpoch count history queue id (asked id)
+pub committing_by_epoch : (queue : SendQueueState) (history : History) (count id : ℕ) (asked : ℕ → EpochBounds) → CountsMessages history queue.streams → IsUnderWayKept queue.streams → SendsByEpoch count history queue id (asked id)
     → SendsByEpoch count (floors_raised queue.streams history) (queue_committed queue) id (asked_ended queue.streams asked id)
 committing_by_epoch queue history count id asked counts kept e = go (committing_named queue id)
   where
     -- nothing that was sent on a stream that is handed out is current
     none_current : is_handed_out (stream_named id queue.streams).pause ≡ true → (n : ℕ) (f : Piece) → at_place n history.log ≡ Some (Some f) → f.message.stream ≡ id → IsCurrent (floors_raised queue.streams history) f → ⊥
-    none_current = none_current_now history queue.streams queue.under_way counts id
+    none_current = none_current_now history queue.streams counts id
 
     ending : (newest : Option ℕ) → (asked id).newest ≡ newest → is_handed_out (stream_named id queue.streams).pause ≡ true → (stream_named id (queue_committed queue).streams).messages ≡ (stream_named id queue.streams).messages
         → (stream_named id (queue_committed queue).streams).pause ≡ Open → HaltsIfAsked newest history queue id → SendsByEpoch count (floors_raised queue.streams history) (queue_committed queue) id (newest_ended (asked id))
@@ -65,7 +63,7 @@ committing_by_epoch queue history count id asked counts kept e = go (committing_
     ending (Some place) is handed messages pause stops =
         let its = stops (shut (stream_named id queue.streams).pause handed) in
         let waits : AllFrom place (stream_named id queue.streams).messages =
-        subst (λ (b : Bool). AllFrom place (drop (if b then 1 else 0) (stream_named id queue.streams).messages)) (not_under_way id queue.streams queue.under_way kept handed) its.rest in
+        subst (λ (b : Bool). AllFrom place (drop (if b then 1 else 0) (stream_named id queue.streams).messages)) (not_under_way id queue.streams kept handed) its.rest in
         rw is (record {
           from = record { sent = λ n f at on is'. absurd (none_current handed n f at on is'); waits = subst (λ (l : List Waiting). AllFrom place l) (sym messages) waits };
           stops = λ paused. absurd (let no : true ≡ false = sym (ap is_open_pause pause) ∙ paused in cc);
@@ -84,8 +82,8 @@ committing_by_epoch queue history count id asked counts kept e = go (committing_
         let s = stops (ap is_open_pause (sym unmoves.pause) ∙ paused) in
         record {
           sent = s.sent;
-          going = λ w is front. s.going w is (ap front_of (sym unmoves.messages) ∙ front);
-          rest = subst (λ (l : List Waiting). AllFrom place (drop (count_under_way id queue.under_way) l)) (sym unmoves.messages) s.rest;
+          going = λ w is front. s.going w (ap is_some (sym unmoves.under_way) ∙ is) (ap front_of (sym unmoves.messages) ∙ front);
+          rest = subst (λ (l : List Waiting). AllFrom place l) (sym (unbegun_same (stream_named id queue.streams) (stream_named id (queue_committed queue).streams) unmoves.under_way unmoves.messages)) s.rest;
         }
         )
 

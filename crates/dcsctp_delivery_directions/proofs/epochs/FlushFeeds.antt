@@ -1,13 +1,14 @@
 -- What a flush sends on a stream comes from what waits on it, step by step.
-use Rattle.std.proofs.Common.{◌≡◌, ℕ, Bool, true, false, ◌<◌, ◌≤◌, ◌+◌, ◌-◌, ◌%◌, ◌^◌, arith, List, [], ◌∷◌, ◌++◌, length, map, take, length-append, refl, sym, ◌∙◌, ap, subst, inl, inr}
-use Rattle.std.specs.Prelude.{Option, None, Some, slice_get, if◌then◌else◌}
+use Rattle.std.proofs.Common.{◌≡◌, ◌≢◌, ℕ, Bool, true, false, ◌<◌, ◌≤◌, ◌+◌, ◌-◌, arith, List, [], ◌∷◌, ◌++◌, length, map, take, length-append, refl, sym, ◌∙◌, ap, subst, inl, inr}
+use Rattle.std.specs.Prelude.{Option, None, Some, is_some, slice_get, slice_set}
+use Rattle.std.proofs.lemmas.List.{get_or-set_same, length-set}
 use Rattle.dcsctp_spec.specs.Packet.{Plain, Emission}
 use Rattle.dcsctp_spec.specs.association.Choices.{plain_contents}
 use Rattle.dcsctp_spec.specs.types.declared.progress.Change.{Change}
 use Rattle.dcsctp_spec.specs.types.declared.progress.Change.TheVariants.{SendAgain, Abandon}
-use Rattle.dcsctp_spec.specs.types.declared.sending.Pause.TheVariants.{Open}
+use Rattle.dcsctp_spec.specs.types.declared.ids.StreamId.{StreamId}
 use Rattle.dcsctp_spec.specs.types.declared.sending.UnderWay.{UnderWay}
-use Rattle.dcsctp_spec.specs.types.queues.SendStreams.{Waiting, stream_at, front_of}
+use Rattle.dcsctp_spec.specs.types.queues.SendStreams.{Waiting, Stream, without_front, unused_stream, stream_at}
 use Rattle.dcsctp_spec.specs.endpoint.Event.{Event}
 use Rattle.dcsctp_spec.specs.endpoint.Endpoint.{Endpoint}
 use Rattle.dcsctp_spec.specs.endpoint.BegunResets.{BegunReset, streams_within, request_contents, queue_requesting, retransmission_begun}
@@ -19,16 +20,28 @@ use Rattle.dcsctp_spec.specs.queues.Items.{Item, changed_between}
 use Rattle.dcsctp_spec.specs.queues.Outstanding.{OutstandingState, header, next_tsn}
 use Rattle.dcsctp_spec.specs.queues.OwnResets.{ready_streams}
 use Rattle.dcsctp_spec.specs.queues.SendQueue.{SendQueueState}
-use Rattle.dcsctp_spec.specs.queues.Sending.{Fragment, Drops, none as no_drops_yet, more as drops_one, Chooses, without_rest, after_part, after_last, queue_after_producing, is_last, DiscardsNamed}
+use Rattle.dcsctp_spec.specs.queues.Sending.{Fragment, Drops, none as no_drops_yet, more as drops_one, Chooses, released_queue, without_rest, queue_after_producing, DiscardsNamed}
 use Rattle.dcsctp_spec.specs.queues.Transfer.{Transfer, EndpointQueues, may_give, is_idle}
-use Rattle.dcsctp_delivery_directions.proofs.epochs.Moving.{like_part, like_handing, lost_rest, lost_last}
-use Rattle.dcsctp_delivery_directions.proofs.epochs.Feeding.{Feeds, open_turn, like_feeds, further_feeds, begun_feeds, lost_feeds}
+use Rattle.dcsctp_delivery_directions.proofs.epochs.Moving.{like_handing}
+use Rattle.dcsctp_delivery_directions.proofs.epochs.Feeding.{IsOpenOrGoing, turn_runs, KnowsWays, progress_named, released_other, changed_ways, named_there, like_ways, like_feeds, lost_feeds, FeedsQueue, produced_may, produced_fed}
+use Rattle.dcsctp_delivery_directions.specs.sending.Numbers.{stream_named}
 use Rattle.dcsctp_delivery_directions.proofs.sending.Filling.{counted_outstanding}
 use Rattle.dcsctp_delivery_directions.proofs.sending.Losing.{items_in, begun_items}
 use Rattle.dcsctp_delivery_directions.proofs.sending.Packets.{out_below}
-use Rattle.dcsctp_delivery_directions.proofs.sending.Produced.{within_streams}
+use Rattle.dcsctp_delivery_directions.proofs.sending.Fragments.{ChangesOne}
+use Rattle.dcsctp_delivery_directions.proofs.sending.WhatLeaves.{leaves, drops_front}
+use Rattle.dcsctp_delivery_directions.proofs.sending.Numbers.{old_idle}
+use Rattle.dcsctp_delivery_directions.proofs.sending.ProducedHeld.{held_on}
+use Rattle.dcsctp_delivery_directions.proofs.sending.Streams.{within_streams}
 use Rattle.dcsctp_delivery_directions.proofs.sending.Stages.{changed_at, changed_length, at_last}
-use Rattle.dcsctp_delivery_directions.proofs.sending.WhatWaits.{front_has}
+
+-- the pause of a stream whose oldest message is dropped
+without_pause : (place sent : ℕ) (message : Waiting) (queue : SendQueueState) → place < length queue.streams → (stream_at (without_rest place sent message queue).streams place).pause ≡ (stream_at queue.streams place).pause
+without_pause place sent message queue within =
+    let changed : Stream = record (stream_at queue.streams place) { amount = (stream_at queue.streams place).amount - (length message.payload - sent) } in
+    let reduced : List Stream = slice_set queue.streams place (record (stream_at queue.streams place) { amount = (stream_at queue.streams place).amount - (length message.payload - sent) }) in
+    ap (λ (s : Stream). s.pause) (get_or-set_same reduced place (without_front (stream_at reduced place)) (unused_stream 0 0 0) (omega (arith, within, length-set queue.streams place changed)))
+    ∙ ap (λ (s : Stream). s.pause) (get_or-set_same queue.streams place changed (unused_stream 0 0 0) within)
 
 module _ (P W : ℕ → Type 0) (a id from : ℕ) where
   -- From this item on, what carries bytes of the stream is of messages of these places.
@@ -37,7 +50,7 @@ module _ (P W : ℕ → Type 0) (a id from : ℕ) where
 
   -- what holds of a queue, and of what is in flight
   pub record FeedsOn (queue : SendQueueState) (items : List Item) : Type 0 where
-    pub feeds : Feeds P W a id queue.streams queue.under_way
+    pub fed : FeedsQueue P W a id queue
     pub flies : Flies items
     pub count : from ≤ length items
 
@@ -58,68 +71,47 @@ module _ (P W : ℕ → Type 0) (a id from : ℕ) where
 
   changed_on : (queue : SendQueueState) (change : Change) (start end : ℕ) (items : List Item) → FeedsOn queue items → FeedsOn queue (changed_between change start end items)
   changed_on queue change start end items f =
-      record { feeds = f.feeds; flies = flies_changed change start end items f.flies; count = (let count = f.count in let sizes = changed_length change start end items in omega (arith, count, sizes)) }
+      record { fed = f.fed; flies = flies_changed change start end items f.flies; count = (let count = f.count in let sizes = changed_length change start end items in omega (arith, count, sizes)) }
 
   -- ---- what leaves the queue
 
+  -- the oldest message of a stream is dropped
+  without_fed : (place sent : ℕ) (message : Waiting) (old new : SendQueueState) → place < length old.streams → new.streams ≡ (without_rest place sent message old).streams
+      → ((other : ℕ) → new.held ≡ held_on other → (other ≢ (stream_at old.streams place).id) × (old.held ≡ held_on other)) → FeedsQueue P W a id old → FeedsQueue P W a id new
+  without_fed place sent message old new within same held f =
+      let d = drops_front place sent message old within in
+      let one : ChangesOne place old.streams new.streams = subst (λ (l : List Stream). ChangesOne place old.streams l) (sym same) d.one in
+      let idle : (stream_at new.streams place).under_way ≡ None = ap (λ (l : List Stream). (stream_at l place).under_way) same ∙ d.progress_is in
+      record {
+        ways = changed_ways place old new within one (λ u is. absurd (let none : None ≡ Some u = sym idle ∙ is in cc)) (λ other is. (let h = held other is in (λ at. absurd (h.0 at), λ ne. h.1))) f.ways;
+        feeds = lost_feeds P W a id place old.streams new.streams one (ap (λ (l : List Stream). (stream_at l place).messages) same ∙ d.messages_are) idle
+            (ap (λ (l : List Stream). (stream_at l place).pause) same ∙ without_pause place sent message old within) f.feeds;
+      }
+
   -- what was too old to be started
-  dropped : {E : Type 0} (now : ℕ) (old : SendQueueState) (events : List (Event E)) (new : SendQueueState) → old.under_way ≡ None → Drops now old events new → Feeds P W a id old.streams None → (new.under_way ≡ None) × Feeds P W a id new.streams None
-  dropped now old events new idle no_drops_yet f = (idle, f)
-  dropped now old events new idle (drops_one events' queue place message drops next front expired) f =
-      let earlier = dropped now old events' queue idle drops f in (
-        earlier.0,
-        lost_feeds P W a id place None queue.streams (without_rest place 0 message queue).streams (within_streams queue.streams place message front) tt
-            (lost_rest place 0 message queue (within_streams queue.streams place message front)) earlier.1,
-      )
+  dropped : {E : Type 0} (now : ℕ) (old : SendQueueState) (events : List (Event E)) (new : SendQueueState) → Drops now old events new → FeedsQueue P W a id old → FeedsQueue P W a id new
+  dropped now old events new no_drops_yet f = f
+  dropped now old events new (drops_one events' queue place message drops next front expired) f =
+      let earlier = dropped now old events' queue drops f in
+      let within : place < length queue.streams = within_streams queue.streams place message front in
+      without_fed place 0 message queue (without_rest place 0 message queue) within refl
+      (λ other is. (
+        (λ at. absurd
+            (let idle : (stream_at queue.streams place).under_way ≡ None = old_idle now message (stream_at queue.streams place) expired in
+            let some = earlier.ways.held other is in
+            let there : stream_named other queue.streams ≡ stream_at queue.streams place = ap (λ (k : ℕ). stream_named k queue.streams) at ∙ named_there place queue earlier.ways within in
+            let clash : false ≡ true = sym (ap is_some idle) ∙ ap (λ (s : Stream). is_some s.under_way) (sym there) ∙ some in
+            cc)),
+        is,
+      )) earlier
 
-  -- the message of the next fragment, by what was under way
-  abbrev IsChosen : Option UnderWay → SendQueueState → ℕ → UnderWay → Type 0
-  IsChosen None queue place under_way = ((stream_at queue.streams place).pause ≡ Open) × (under_way.stream_id.0 ≡ (stream_at queue.streams place).id)
-  IsChosen (Some u) queue place under_way = (under_way ≡ u) × ((stream_at queue.streams place).id ≡ u.stream_id.0)
-
-  module _ (u : Option UnderWay) (queue : SendQueueState) (place max : ℕ) (message : Waiting) (under_way : UnderWay) (front : front_of (stream_at queue.streams place).messages ≡ Some message) (chosen : IsChosen u queue place under_way)
-      (f : Feeds P W a id queue.streams u) where
-    within : place < length queue.streams
-    within = within_streams queue.streams place message front
-
-    -- It may be sent.
-    produced_may : under_way.stream_id.0 ≡ id → P message.message_id
-    produced_may on = go u chosen f
-      where
-        go : (v : Option UnderWay) → IsChosen v queue place under_way → Feeds P W a id queue.streams v → P message.message_id
-        go None is g = g.starts place message (sym is.1 ∙ on) is.0 (front_has (stream_at queue.streams place).messages message front)
-        go (Some v) is g =
-            let stream : v.stream_id.0 ≡ id = ap (λ (x : UnderWay). x.stream_id.0) (sym is.0) ∙ on in
-            g.going v place message refl stream (is.1 ∙ stream) front
-
-    -- The rest is fed as before.
-    produced_feeds : Feeds P W a id (queue_after_producing place max message under_way queue).streams (queue_after_producing place max message under_way queue).under_way
-    produced_feeds = by_last (is_last max message under_way)
-      where
-        whole : (v : Option UnderWay) → IsChosen v queue place under_way → Feeds P W a id queue.streams v → Feeds P W a id (after_last place message under_way queue).streams None
-        whole None is g = lost_feeds P W a id place None queue.streams (after_last place message under_way queue).streams within tt (lost_last place message under_way queue within) g
-        whole (Some v) is g = lost_feeds P W a id place (Some v) queue.streams (after_last place message under_way queue).streams within is.1 (lost_last place message under_way queue within) g
-
-        part : (v : Option UnderWay) → IsChosen v queue place under_way → Feeds P W a id queue.streams v → Feeds P W a id (after_part place max message under_way queue).streams (after_part place max message under_way queue).under_way
-        part None is g =
-            begun_feeds P W a id place (record under_way { next_fsn = (under_way.next_fsn + 1) % 2 ^ 32; sent = under_way.sent + max }) queue.streams (after_part place max message under_way queue).streams within is.0 is.1
-            (like_part place max message under_way queue) g
-        part (Some v) is g =
-            further_feeds P W a id v (record under_way { next_fsn = (under_way.next_fsn + 1) % 2 ^ 32; sent = under_way.sent + max }) queue.streams (after_part place max message under_way queue).streams
-            (ap (λ (x : UnderWay). x.stream_id.0) is.0) (like_part place max message under_way queue) g
-
-        by_last : (b : Bool) → Feeds P W a id (if b then after_last place message under_way queue else after_part place max message under_way queue).streams
-            (if b then after_last place message under_way queue else after_part place max message under_way queue).under_way
-        by_last true = whole u chosen f
-        by_last false = part u chosen f
-
-  -- A fragment is taken.
-  chosen_so : {E : Type 0} (now : ℕ) (old queue : SendQueueState) (events : List (Event E)) (place : ℕ) (message : Waiting) (under_way : UnderWay) (u : Option UnderWay) → old.under_way ≡ u → Drops now old events queue → Chooses now old u queue place message under_way
-      → Feeds P W a id old.streams u → IsChosen u queue place under_way × Feeds P W a id queue.streams u
-  chosen_so now old queue events place message under_way None idle drops chooses f =
-      ((open_turn (stream_at queue.streams place) chooses.0.turn chooses.0.is, ap (λ (x : UnderWay). x.stream_id.0) chooses.2), (dropped now old events queue idle drops f).1)
-  chosen_so now old queue events place message under_way (Some u) going drops chooses f =
-      ((chooses.1, chooses.2), subst (λ (q : SendQueueState). Feeds P W a id q.streams (Some u)) (sym chooses.0) f)
+  -- the stream that is chosen runs
+  chosen_runs : (now : ℕ) (old queue : SendQueueState) (place : ℕ) (message : Waiting) (held : Option StreamId) → old.held ≡ held → Chooses now old held queue place message → place < length queue.streams → KnowsWays queue → IsOpenOrGoing (stream_at queue.streams place)
+  chosen_runs now old queue place message None none chooses within ways = turn_runs (stream_at queue.streams place) chooses.0.turn chooses.0.is
+  chosen_runs now old queue place message (Some h) is chooses within ways =
+      let some = ways.held h.0 (ap (λ (q : SendQueueState). q.held) chooses.0 ∙ is) in
+      let there : stream_named h.0 queue.streams ≡ stream_at queue.streams place = ap (λ (k : ℕ). stream_named k queue.streams) (sym chooses.1) ∙ named_there place queue ways within in
+      record { may = inr (ap (λ (s : Stream). is_some s.under_way) (sym there) ∙ some) }
 
   -- ---- the steps of a packet
 
@@ -141,13 +133,15 @@ module _ (P W : ℕ → Type 0) (a id from : ℕ) where
       go false discards ends = subst (λ (q : SendQueueState). FeedsOn q rest.outstanding.items) (sym discards.1) (subst (λ (o : OutstandingState). FeedsOn old.waiting o.items) (sym ends) f)
       go true discards ends =
           let within : discards.named.place < length old.waiting.streams = within_streams old.waiting.streams discards.named.place discards.named.message discards.named.front in
+          let left : SendQueueState = released_queue last.fragment.stream (without_rest discards.named.place discards.named.under_way.sent discards.named.message old.waiting) in
           subst (λ (q : SendQueueState). FeedsOn q rest.outstanding.items) (sym discards.left)
-          (subst (λ (o : OutstandingState). FeedsOn (record (without_rest discards.named.place discards.named.under_way.sent discards.named.message old.waiting) { under_way = None }) o.items) (sym ends.grows)
+          (subst (λ (o : OutstandingState). FeedsOn left o.items) (sym ends.grows)
           (record {
-            feeds =
-                lost_feeds P W a id discards.named.place (Some discards.named.under_way) old.waiting.streams (without_rest discards.named.place discards.named.under_way.sent discards.named.message old.waiting).streams within
-                (discards.named.is ∙ sym discards.named.same) (lost_rest discards.named.place discards.named.under_way.sent discards.named.message old.waiting within)
-                (subst (λ (u : Option UnderWay). Feeds P W a id old.waiting.streams u) discards.named.goes_on f.feeds);
+            fed = without_fed discards.named.place discards.named.under_way.sent discards.named.message old.waiting left within refl
+                (λ other is. (
+                let still = released_other last.fragment.stream other (without_rest discards.named.place discards.named.under_way.sent discards.named.message old.waiting) is in
+                (λ at. still.1 (at ∙ discards.named.is), still.0)
+                )) f.fed;
             flies = flies_with old.queue.outstanding.items ends.item (λ on some. absurd (some (ap (λ (x : Fragment). x.payload) ends.is_end.is))) f.flies;
             count = (let count = f.count in let sizes = length-append old.queue.outstanding.items (ends.item ∷ []) in omega (arith, count, sizes));
           }))
@@ -172,29 +166,43 @@ module _ (P W : ℕ → Type 0) (a id from : ℕ) where
         | inr e ↦ given_up_feeds now e.place old new f e.gives_up
       ]
 
-  new_feeds : (now : ℕ) (old new : Stage) → StageFeeds old → SendsNew now old new → StageFeeds new
-  new_feeds now old new f sends =
-      subst (λ (l : List Item). FeedsOn new.waiting l) (sym (ap (λ (s : Stage). s.queue.outstanding.items) sends.is))
-      (record {
-        feeds = subst (λ (q : SendQueueState). Feeds P W a id q.streams q.under_way) (sym sends.takes.left)
-            (produced_feeds old.waiting.under_way sends.takes.queue sends.takes.place max sends.takes.message sends.takes.under_way sends.takes.front so.0 so.1);
-        flies = flies_with old.queue.outstanding.items sends.item
-            (λ on some. subst P (sym (ap (λ (x : Fragment). x.message_id) sends.takes.is))
-            (produced_may old.waiting.under_way sends.takes.queue sends.takes.place max sends.takes.message sends.takes.under_way sends.takes.front so.0 so.1 (sym (ap (λ (x : Fragment). x.stream) sends.takes.is) ∙ on))) f.flies;
-        count = (let count = f.count in let sizes = length-append old.queue.outstanding.items (sends.item ∷ []) in omega (arith, count, sizes));
-      })
-    where
-      max : ℕ
-      max = payload_room (header old.queue.outstanding) old.room
+  module _ (now : ℕ) (old new : Stage) (f : StageFeeds old) (sends : SendsNew now old new) where
+    abbrev max : ℕ
+    max = payload_room (header old.queue.outstanding) old.room
 
-      so : IsChosen old.waiting.under_way sends.takes.queue sends.takes.place sends.takes.under_way × Feeds P W a id sends.takes.queue.streams old.waiting.under_way
-      so = chosen_so now old.waiting sends.takes.queue sends.takes.drops.events sends.takes.place sends.takes.message sends.takes.under_way old.waiting.under_way refl sends.takes.drops.drops sends.takes.chosen f.feeds
+    within : sends.takes.place < length sends.takes.queue.streams
+    within = within_streams sends.takes.queue.streams sends.takes.place sends.takes.message sends.takes.front
+
+    left_fed : FeedsQueue P W a id sends.takes.queue
+    left_fed = dropped now old.waiting sends.takes.drops.events sends.takes.queue sends.takes.drops.drops f.fed
+
+    runs : IsOpenOrGoing (stream_at sends.takes.queue.streams sends.takes.place)
+    runs = chosen_runs now old.waiting sends.takes.queue sends.takes.place sends.takes.message old.waiting.held refl sends.takes.chosen within left_fed.ways
+
+    own : (stream_at sends.takes.queue.streams sends.takes.place).id ≡ sends.takes.under_way.stream_id.0
+    own = progress_named sends.takes.message (stream_at sends.takes.queue.streams sends.takes.place) (left_fed.ways.named sends.takes.place) ∙ ap (λ (u : UnderWay). u.stream_id.0) (sym sends.takes.come)
+
+    new_fed : FeedsQueue P W a id new.waiting
+    new_fed =
+        subst (λ (q : SendQueueState). FeedsQueue P W a id q) (sym sends.takes.left)
+        (produced_fed P W a id sends.takes.place max sends.takes.message sends.takes.under_way sends.takes.queue (queue_after_producing sends.takes.place max sends.takes.message sends.takes.under_way sends.takes.queue) within runs left_fed own
+        (leaves sends.takes.place max sends.takes.message sends.takes.under_way sends.takes.queue within))
+
+    new_feeds : StageFeeds new
+    new_feeds =
+        subst (λ (l : List Item). FeedsOn new.waiting l) (sym (ap (λ (s : Stage). s.queue.outstanding.items) sends.is))
+        (record {
+          fed = new_fed;
+          flies = flies_with old.queue.outstanding.items sends.item
+              (λ on some. subst P (sym (ap (λ (x : Fragment). x.message_id) sends.takes.is))
+              (produced_may P W a id sends.takes.place max sends.takes.message sends.takes.under_way sends.takes.queue sends.takes.queue within runs left_fed own sends.takes.front (sym (ap (λ (x : Fragment). x.stream) sends.takes.is) ∙ on))) f.flies;
+          count = (let count = f.count in let sizes = length-append old.queue.outstanding.items (sends.item ∷ []) in omega (arith, count, sizes));
+        })
 
   finds_feeds : (now : ℕ) (old new : Stage) → StageFeeds old → FindsNone now old new → StageFeeds new
   finds_feeds now old new f finds =
-      let gone = dropped now old.waiting finds.takes.drops.events new.waiting finds.takes.idle finds.takes.drops.drops (subst (λ (u : Option UnderWay). Feeds P W a id old.waiting.streams u) finds.takes.idle f.feeds) in
       subst (λ (l : List Item). FeedsOn new.waiting l) (sym (ap (λ (s : Stage). s.queue.outstanding.items) finds.is))
-      (record { feeds = subst (λ (u : Option UnderWay). Feeds P W a id new.waiting.streams u) (sym gone.0) gone.1; flies = f.flies; count = f.count })
+      (record { fed = dropped now old.waiting finds.takes.drops.events new.waiting finds.takes.drops.drops f.fed; flies = f.flies; count = f.count })
 
   anew_feeds : (now : ℕ) (old new : Stage) → StageFeeds old → StepNew now old new → StageFeeds new
   anew_feeds now old new f step = elim step.1 [ inl e ↦ new_feeds now old new f e | inr e ↦ finds_feeds now old new f e ]
@@ -231,7 +239,15 @@ module _ (P W : ℕ → Type 0) (a id from : ℕ) where
   requesting_feeds : (count : ℕ) (begun : Option BegunReset) (queue : SendQueueState) (items : List Item) → FeedsOn queue items → FeedsOn (queue_requesting count begun queue) items
   requesting_feeds count None queue items f = f
   requesting_feeds count (Some begun) queue items f =
-      record { feeds = like_feeds P W a id queue.under_way queue.streams _ (like_handing (take count (ready_streams queue)) queue.streams) f.feeds; flies = f.flies; count = f.count }
+      let like = like_handing (take count (ready_streams queue)) queue.streams in
+      record {
+        fed = record {
+          ways = like_ways queue (queue_requesting count (Some begun) queue) refl like f.fed.ways;
+          feeds = like_feeds P W a id queue.streams (queue_requesting count (Some begun) queue).streams like f.fed.feeds;
+        };
+        flies = f.flies;
+        count = f.count;
+      }
 
   module _ (ask : Ask) (e : Endpoint) (draft : Emission) (transfer : Transfer) (answer : Answer) (gives : Gives ask e draft transfer answer) (f : FeedsOn e.queues.queue transfer.retransmission.outstanding.items) where
     -- once a request was begun, if one was

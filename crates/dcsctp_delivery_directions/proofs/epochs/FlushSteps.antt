@@ -3,6 +3,8 @@ use Rattle.std.proofs.Common.{◌≡◌, ℕ, zero, suc, Bool, true, false, ◌<
 use Rattle.std.specs.Prelude.{Option, None, Some}
 use Rattle.std.proofs.lemmas.Bool.Decides.{leb_tells}
 use Rattle.dcsctp_spec.specs.Packet.{Emission}
+use Rattle.dcsctp_spec.specs.types.declared.sending.UnderWay.{UnderWay}
+use Rattle.dcsctp_spec.specs.types.queues.SendStreams.{stream_at}
 use Rattle.dcsctp_spec.specs.queues.Transfer.{Transfer, EndpointQueues}
 use Rattle.dcsctp_spec.specs.endpoint.Endpoint.{Endpoint}
 use Rattle.dcsctp_spec.specs.endpoint.FlushOutcomes.{Ask, Answer, AreFlushAnswers, flush_of}
@@ -10,7 +12,7 @@ use Rattle.dcsctp_delivery_directions.specs.sending.Places.{at_place}
 use Rattle.dcsctp_delivery_directions.specs.sending.Flushes.{InFlight, QueuesFollowLog}
 use Rattle.dcsctp_delivery_directions.specs.sending.Log.{Message, Piece, Slot, History, IsLogOfPieces}
 use Rattle.dcsctp_delivery_directions.specs.sending.Numbers.{IsCurrent}
-use Rattle.dcsctp_delivery_directions.specs.sending.Pieces.{CarriesPiece}
+use Rattle.dcsctp_delivery_directions.specs.sending.Pieces.{Going, IsGoing, CarriesPiece}
 use Rattle.dcsctp_delivery_directions.specs.sending.Stages.{Bears, SaysSlot}
 use Rattle.dcsctp_delivery_directions.proofs.sending.Extended.{at_more}
 use Rattle.dcsctp_delivery_directions.proofs.sending.Losing.{items_in}
@@ -18,7 +20,7 @@ use Rattle.dcsctp_delivery_directions.proofs.sending.OpenOn.{flush_open_on}
 use Rattle.dcsctp_delivery_directions.proofs.sending.Places.{at_below, at_some}
 use Rattle.dcsctp_delivery_directions.proofs.sending.Stages.{item_at, item_below}
 use Rattle.dcsctp_delivery_directions.specs.epochs.Sending.{SendsFrom, EpochBounds, is_open, HaltsIfAsked, SendsByEpoch}
-use Rattle.dcsctp_delivery_directions.proofs.epochs.Feeding.{Feeds}
+use Rattle.dcsctp_delivery_directions.proofs.epochs.Feeding.{KnowsWays, FeedsStreams}
 use Rattle.dcsctp_delivery_directions.proofs.epochs.FlushFeeds.{Flies, FeedsOn, flush_feeds}
 use Rattle.dcsctp_delivery_directions.proofs.epochs.Named.{AreApart, AnyPlace, from_feeds, feeds_from, stop_feeds, feeds_going, feeds_rest, named_open, open_named}
 
@@ -85,12 +87,20 @@ module _ (queued : List Message) (history later : History) (first acknowledged :
   was_current : (f : Piece) → IsCurrent later f → IsCurrent history f
   was_current f is = subst (λ (fs : ℕ → Bool → ℕ). fs f.message.stream f.message.is_unordered ≤ f.mid) floors is
 
+  -- what is under way before it
+  known : KnowsWays e.queues.queue
+  known = record { distinct = before.queue_holds.distinct; named = λ q u is. named_so q u is (before.queue_holds.going q); held = before.numbers.whole.held }
+    where
+      named_so : (q : ℕ) (u : UnderWay) → (stream_at e.queues.queue.streams q).under_way ≡ Some u → Going queued history.log (stream_at e.queues.queue.streams q) (stream_at e.queues.queue.streams q).under_way
+          → (stream_at e.queues.queue.streams q).id ≡ u.stream_id.0
+      named_so q u is going = (let g : IsGoing queued history.log (stream_at e.queues.queue.streams q) u = subst (λ (o : Option UnderWay). Going queued history.log (stream_at e.queues.queue.streams q) o) is going in g.is)
+
   -- the invariant of a flush, before it and after it
-  module _ (P W : ℕ → Type 0) (a : ℕ) (feeds : Feeds P W a id e.queues.queue.streams e.queues.queue.under_way) where
+  module _ (P W : ℕ → Type 0) (a : ℕ) (feeds : FeedsStreams P W a id e.queues.queue.streams) where
     fed : FeedsOn P W a id (length (items_in e.queues.transfer)) queues.queue (items_in queues.transfer)
     fed =
         flush_feeds P W a id (length (items_in e.queues.transfer)) ask n e draft answers allowed
-        (record { feeds = feeds; flies = λ k item low at on some. absurd (let below = item_below (items_in e.queues.transfer) k item at in omega (arith, low, below)); count = omega arith })
+        (record { fed = record { ways = known; feeds = feeds }; flies = λ k item low at on some. absurd (let below = item_below (items_in e.queues.transfer) k item at in omega (arith, low, below)); count = omega arith })
 
     -- what was sent is of these places
     sent_so : (k : ℕ) (f : Piece) → length history.log ≤ k → at_place k later.log ≡ Some (Some f) → f.message.stream ≡ id → P f.place
@@ -98,28 +108,28 @@ module _ (queued : List Message) (history later : History) (first acknowledged :
 
   flush_from : (place : ℕ) → SendsFrom history e.queues.queue id place → SendsFrom later queues.queue id place
   flush_from place f =
-      let feeds = from_feeds place id e.queues.queue.under_way e.queues.queue.streams before.queue_holds.distinct f.waits in
+      let feeds = from_feeds place id e.queues.queue.streams before.queue_holds.distinct f.waits in
       record {
         sent = λ k g at on is. elim (leb_tells (suc k) (length history.log)) [
           | inl low ↦ f.sent k g (was_sent k g (let less = low.1 in omega (arith, less)) at) on (was_current g is)
           | inr high ↦ sent_so (λ p. place ≤ p) (λ p. place ≤ p) 0 feeds k g (let less = high.1 in omega (arith, less)) at on
         ];
-        waits = feeds_from place id queues.queue.under_way queues.queue.streams (fed (λ p. place ≤ p) (λ p. place ≤ p) 0 feeds).feeds;
+        waits = feeds_from place id queues.queue.streams (fed (λ p. place ≤ p) (λ p. place ≤ p) 0 feeds).fed.feeds;
       }
 
   flush_stops : (newest : Option ℕ) → HaltsIfAsked newest history e.queues.queue id → HaltsIfAsked newest later queues.queue id
   flush_stops None stops = tt
   flush_stops (Some place) stops = λ paused. (
       let s = stops (paused_before ask n e draft answers allowed before.queue_holds.distinct id paused) in
-      let feeds = stop_feeds place id e.queues.queue.under_way e.queues.queue.streams before.queue_holds.distinct (paused_before ask n e draft answers allowed before.queue_holds.distinct id paused) s.going s.rest in
-      let done = (fed (λ p. p < place) AnyPlace place feeds).feeds in
+      let feeds = stop_feeds place id e.queues.queue.streams before.queue_holds.distinct (paused_before ask n e draft answers allowed before.queue_holds.distinct id paused) s.going s.rest in
+      let done = (fed (λ p. p < place) AnyPlace place feeds).fed.feeds in
       record {
         sent = λ k g at on. elim (leb_tells (suc k) (length history.log)) [
           | inl low ↦ s.sent k g (was_sent k g (let less = low.1 in omega (arith, less)) at) on
           | inr high ↦ sent_so (λ p. p < place) AnyPlace place feeds k g (let less = high.1 in omega (arith, less)) at on
         ];
-        going = feeds_going place id queues.queue.under_way queues.queue.streams done;
-        rest = feeds_rest place id queues.queue.under_way queues.queue.streams done;
+        going = feeds_going place id queues.queue.streams done;
+        rest = feeds_rest place id queues.queue.streams done;
       }
       )
 

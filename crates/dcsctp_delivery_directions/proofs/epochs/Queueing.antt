@@ -1,9 +1,10 @@
 -- Messages that are queued, and settings, leave a stream that is sent by epochs so.
 use Rattle.std.proofs.Common.{◌≡◌, ◌==◌, ℕ, zero, suc, Bool, true, false, ◌≤◌, List, [], ◌∷◌, ◌++◌, drop, refl, sym, ◌∙◌, ap, arith, subst, inl, inr}
-use Rattle.std.specs.Prelude.{◌⊎◌, Option, None, Some, if◌then◌else◌}
+use Rattle.std.specs.Prelude.{◌⊎◌, Option, None, Some, is_some, if◌then◌else◌}
+use Rattle.dcsctp_spec.specs.types.declared.sending.UnderWay.{UnderWay}
 use Rattle.dcsctp_spec.specs.types.Setting.{Setting, stream_priority, stream_low_threshold, longest_message}
 use Rattle.dcsctp_spec.specs.types.queues.SendStreams.{Waiting, Stream, front_of, unused_stream, with_message}
-use Rattle.dcsctp_spec.specs.queues.OwnResets.{is_open_pause, is_under_way, count_under_way}
+use Rattle.dcsctp_spec.specs.queues.OwnResets.{is_open_pause, count_under_way}
 use Rattle.dcsctp_spec.specs.queues.SendQueue.{SendQueueState, stream_changed, used_streams, with_threshold, with_priority, queued_message as waiting_as}
 use Rattle.dcsctp_spec.specs.endpoint.MessageOutcomes.{Sending, sending_queued}
 use Rattle.dcsctp_spec.specs.endpoint.SettingOutcomes.{set_in_queue}
@@ -19,6 +20,7 @@ use Rattle.dcsctp_delivery_directions.proofs.epochs.Alike.{same_history, stays_b
 -- One more may wait.
 record Grows (w : Waiting) (old new : Stream) : Type 0 where
   pause : new.pause ≡ old.pause
+  under_way : new.under_way ≡ old.under_way
   messages : (new.messages ≡ old.messages) ⊎ (new.messages ≡ old.messages ++ w ∷ [])
 
 from_one_more : (a : ℕ) (l : List Waiting) (w : Waiting) → a ≤ w.message_id → AllFrom a l → AllFrom a (l ++ w ∷ [])
@@ -40,10 +42,11 @@ queueing_grows now sending queue id =
     let w : Waiting = waiting_as now sending.message sending.options queue in
     let used = used_unmoved queue sending.message.stream id in
     let grown : Grows w (stream_named id (used_streams queue sending.message.stream)) (stream_named id (sending_queued now sending queue).streams) =
-    found_mapped (Grows w) id (unused_stream 0 0 0) (λ s. if s.id == sending.message.stream then with_message w s else s) (λ s. one_id (s.id == sending.message.stream) s) (record { pause = refl; messages = inl refl })
+    found_mapped (Grows w) id (unused_stream 0 0 0) (λ s. if s.id == sending.message.stream then with_message w s else s) (λ s. one_id (s.id == sending.message.stream) s) (record { pause = refl; under_way = refl; messages = inl refl })
     (λ s is. one w (s.id == sending.message.stream) s) (used_streams queue sending.message.stream) in
     record {
       pause = grown.pause ∙ used.pause;
+      under_way = grown.under_way ∙ used.under_way;
       messages = elim grown.messages [
         | inl e ↦ inl (e ∙ used.messages)
         | inr e ↦ inr (e ∙ ap (λ (l : List Waiting). l ++ w ∷ []) used.messages)
@@ -55,19 +58,19 @@ queueing_grows now sending queue id =
     one_id false s = refl
 
     one : (w : Waiting) (b : Bool) (s : Stream) → Grows w s (if b then with_message w s else s)
-    one w true s = record { pause = refl; messages = inr refl }
-    one w false s = record { pause = refl; messages = inl refl }
+    one w true s = record { pause = refl; under_way = refl; messages = inr refl }
+    one w false s = record { pause = refl; under_way = refl; messages = inl refl }
 
 -- The message under way waits on its stream.
 abbrev pub HasGoing : SendQueueState → ℕ → Type 0
-HasGoing queue id = is_under_way id queue.under_way ≡ true → (w : Waiting) × (front_of (stream_named id queue.streams).messages ≡ Some w)
+HasGoing queue id = is_some (stream_named id queue.streams).under_way ≡ true → (w : Waiting) × (front_of (stream_named id queue.streams).messages ≡ Some w)
 
 pub queueing_by_epoch : (now : ℕ) (sending : Sending) (queue : SendQueueState) (history : History) (id : ℕ) (asked : EpochBounds) → HasGoing queue id → SendsByEpoch queue.next_message_id history queue id asked
     → SendsByEpoch (suc queue.next_message_id) history (sending_queued now sending queue) id asked
 queueing_by_epoch now sending queue history id asked there e =
     elim grown.messages [
       | inl same ↦
-          stays_by_epoch history history (same_history history) queue (sending_queued now sending queue) id refl (record { messages = same; pause = grown.pause }) queue.next_message_id (suc queue.next_message_id) asked (omega arith) e
+          stays_by_epoch history history (same_history history) queue (sending_queued now sending queue) id (record { messages = same; under_way = grown.under_way; pause = grown.pause }) queue.next_message_id (suc queue.next_message_id) asked (omega arith) e
       | inr more ↦
           record {
             from = record { sent = e.from.sent; waits = subst (λ (l : List Waiting). AllFrom asked.ended l) (sym more) (from_one_more asked.ended (stream_named id queue.streams).messages w e.ended e.from.waits) };
@@ -91,12 +94,14 @@ queueing_by_epoch now sending queue history id asked there e =
         record {
           sent = before.sent;
           going = λ v is front. (
-              let (x, first) = there is in
+              let goes : is_some (stream_named id queue.streams).under_way ≡ true = ap is_some (sym grown.under_way) ∙ is in
+              let (x, first) = there goes in
               let both : Some x ≡ Some v = sym (ap front_of more ∙ front_stays (stream_named id queue.streams).messages x (waiting_as now sending.message sending.options queue) first) ∙ front in
-              before.going v is (first ∙ both)
+              before.going v goes (first ∙ both)
               );
-          rest = subst (λ (l : List Waiting). AllFrom place (drop (count_under_way id queue.under_way) l)) (sym more)
-              (rest_one_more place (count_under_way id queue.under_way) (stream_named id queue.streams).messages (waiting_as now sending.message sending.options queue) (low place refl) before.rest);
+          rest = subst (λ (l : List Waiting). AllFrom place l)
+              (sym (ap (λ (u : Option UnderWay). drop (if is_some u then 1 else 0) (stream_named id (sending_queued now sending queue).streams).messages) grown.under_way ∙ ap (λ (l : List Waiting). drop (count_under_way (stream_named id queue.streams)) l) more))
+              (rest_one_more place (count_under_way (stream_named id queue.streams)) (stream_named id queue.streams).messages (waiting_as now sending.message sending.options queue) (low place refl) before.rest);
         }
         )
 
@@ -107,7 +112,7 @@ changed_unmoved other f queue id ids each =
     let used = used_unmoved queue other id in
     let changed : IsUnmoved (stream_named id (used_streams queue other)) (stream_named id (stream_changed other f (used_streams queue other))) =
     found_mapped IsUnmoved id (unused_stream 0 0 0) (λ s. if s.id == other then f s else s) (λ s. one_id (s.id == other) s) (unmoved (unused_stream 0 0 0)) (λ s is. one (s.id == other) s) (used_streams queue other) in
-    record { messages = changed.messages ∙ used.messages; pause = changed.pause ∙ used.pause }
+    record { messages = changed.messages ∙ used.messages; under_way = changed.under_way ∙ used.under_way; pause = changed.pause ∙ used.pause }
   where
     one_id : (b : Bool) (s : Stream) → (if b then f s else s).id ≡ s.id
     one_id true s = ids s
@@ -119,10 +124,10 @@ changed_unmoved other f queue id ids each =
 
 pub setting_by_epoch : (setting : Setting) (queue : SendQueueState) (history : History) (id count : ℕ) (asked : EpochBounds) → SendsByEpoch count history queue id asked → SendsByEpoch count history (set_in_queue setting queue) id asked
 setting_by_epoch (stream_priority other priority) queue history id count asked e =
-    stays_by_epoch history history (same_history history) queue (set_in_queue (stream_priority other priority) queue) id refl (changed_unmoved other (with_priority priority) queue id (λ s. refl) (λ s. record { messages = refl; pause = refl })) count count asked
+    stays_by_epoch history history (same_history history) queue (set_in_queue (stream_priority other priority) queue) id (changed_unmoved other (with_priority priority) queue id (λ s. refl) (λ s. record { messages = refl; under_way = refl; pause = refl })) count count asked
     (omega arith) e
 setting_by_epoch (stream_low_threshold other bytes) queue history id count asked e =
-    stays_by_epoch history history (same_history history) queue (set_in_queue (stream_low_threshold other bytes) queue) id refl (changed_unmoved other (with_threshold bytes) queue id (λ s. refl) (λ s. record { messages = refl; pause = refl })) count count asked
+    stays_by_epoch history history (same_history history) queue (set_in_queue (stream_low_threshold other bytes) queue) id (changed_unmoved other (with_threshold bytes) queue id (λ s. refl) (λ s. record { messages = refl; under_way = refl; pause = refl })) count count asked
     (omega arith) e
 setting_by_epoch (longest_message bytes) queue history id count asked e = e
 
@@ -130,6 +135,6 @@ pub queueing_open : (now : ℕ) (sending : Sending) (queue : SendQueueState) (id
 queueing_open now sending queue id = ap is_open_pause (queueing_grows now sending queue id).pause
 
 pub setting_open : (setting : Setting) (queue : SendQueueState) (id : ℕ) → is_open id (set_in_queue setting queue).streams ≡ is_open id queue.streams
-setting_open (stream_priority other priority) queue id = ap is_open_pause (changed_unmoved other (with_priority priority) queue id (λ s. refl) (λ s. record { messages = refl; pause = refl })).pause
-setting_open (stream_low_threshold other bytes) queue id = ap is_open_pause (changed_unmoved other (with_threshold bytes) queue id (λ s. refl) (λ s. record { messages = refl; pause = refl })).pause
+setting_open (stream_priority other priority) queue id = ap is_open_pause (changed_unmoved other (with_priority priority) queue id (λ s. refl) (λ s. record { messages = refl; under_way = refl; pause = refl })).pause
+setting_open (stream_low_threshold other bytes) queue id = ap is_open_pause (changed_unmoved other (with_threshold bytes) queue id (λ s. refl) (λ s. record { messages = refl; under_way = refl; pause = refl })).pause
 setting_open (longest_message bytes) queue id = refl

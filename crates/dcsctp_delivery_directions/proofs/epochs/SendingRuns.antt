@@ -1,7 +1,6 @@
 -- With interleaving each stream of a direction is sent by epochs.
 use Rattle.std.proofs.Common.{◌≡◌, ℕ, suc, Bool, true, false, ◌<◌, ◌≤◌, ◌+◌, ◌-◌, ◌^◌, List, [], ◌∷◌, ◌++◌, length, length-append, refl, sym, ◌∙◌, ap, arith, subst}
-use Rattle.std.specs.Prelude.{Option, None, Some}
-use Rattle.std.proofs.lemmas.Bool.{eqb-true}
+use Rattle.std.specs.Prelude.{Option, None, Some, is_some}
 use Rattle.dcsctp_spec.specs.types.declared.options.Options.{Options}
 use Rattle.dcsctp_spec.specs.types.declared.sending.UnderWay.{UnderWay}
 use Rattle.dcsctp_spec.specs.types.queues.SendStreams.{Waiting, front_of}
@@ -14,7 +13,7 @@ use Rattle.dcsctp_spec.specs.queues.SendQueue.{SendQueueState}
 use Rattle.dcsctp_spec.specs.queues.Transfer.{EndpointQueues}
 use Rattle.dcsctp_spec.specs.endpoint.FlushOutcomes.{first_ask, packets_allowed}
 use Rattle.dcsctp_delivery_directions.specs.sending.Log.{Message, Slot, History, new_history}
-use Rattle.dcsctp_delivery_directions.specs.sending.Numbers.{stream_named, NumbersMessages, CountsByKind, CountsMessages}
+use Rattle.dcsctp_delivery_directions.specs.sending.Numbers.{stream_named, LastIs, NumbersMessages, CountsByKind, CountsMessages}
 use Rattle.dcsctp_delivery_directions.specs.sending.Queueing.{floors_raised}
 use Rattle.dcsctp_delivery_directions.specs.sending.Flushes.{QueuesFollowLog}
 use Rattle.dcsctp_delivery_directions.proofs.sending.Filling.{counted_outstanding}
@@ -34,7 +33,7 @@ use Rattle.dcsctp_delivery_directions.proofs.epochs.FlushSteps.{flush_by_epoch, 
 use Rattle.dcsctp_delivery_directions.proofs.sending.NextIdentifiers.{flush_kind}
 use Rattle.dcsctp_delivery_directions.proofs.sending.Prepared.{preparing_kind}
 use Rattle.dcsctp_delivery_directions.proofs.sending.Settings.{setting_kind}
-use Rattle.dcsctp_spec.specs.queues.OwnResets.{is_under_way, queue_committed}
+use Rattle.dcsctp_spec.specs.queues.OwnResets.{queue_committed}
 use Rattle.dcsctp_spec.specs.endpoint.MessageOutcomes.{sending_queued}
 use Rattle.dcsctp_delivery_directions.proofs.epochs.Named.{AreApart, from_each, unmoved}
 use Rattle.dcsctp_delivery_directions.proofs.epochs.Alike.{IsAlike, stays_by_epoch}
@@ -46,11 +45,11 @@ use Rattle.dcsctp_delivery_directions.proofs.epochs.Ending.{committing_by_epoch,
 
 -- The message under way is the oldest of its stream.
 has_going : (history : History) (queue : SendQueueState) (id : ℕ) → queue.is_interleaved ≡ true → NumbersMessages history queue → HasGoing queue id
-has_going history queue id interleaved numbers is = go queue.under_way is (subst (λ (b : Bool). CountsByKind b history queue.streams queue.under_way) interleaved numbers.counts)
+has_going history queue id interleaved numbers is = (let counts = subst (λ (b : Bool). CountsByKind b history queue.streams queue.held) interleaved numbers.counts in go counts (stream_named id queue.streams).under_way is (counts.going id))
   where
-    go : (u : Option UnderWay) → is_under_way id u ≡ true → CountsMessages history queue.streams u → (w : Waiting) × (front_of (stream_named id queue.streams).messages ≡ Some w)
-    go None on c = absurd (cc)
-    go (Some u) on c = (c.going.waiting, subst (λ (k : ℕ). front_of (stream_named k queue.streams).messages ≡ Some c.going.waiting) (eqb-true u.stream_id.0 id on) c.going.front)
+    go : (c : CountsMessages history queue.streams) (u : Option UnderWay) → is_some u ≡ true → LastIs history queue.streams c.counts id u → (w : Waiting) × (front_of (stream_named id queue.streams).messages ≡ Some w)
+    go c None on last = absurd (cc)
+    go c (Some u) on last = (last.waiting, last.front)
 
 -- As many items are in flight when some are sent again at once.
 again_size : (now : ℕ) (old new : Stage) → StageSteps (SendsMarked now) old new → length new.queue.outstanding.items ≡ length old.queue.outstanding.items
@@ -85,7 +84,7 @@ module _ (first : ℕ) (old : Direction) (small : first < 2 ^ 32) (s : Stands fi
   still_by_epoch direction after same same' more log floors counts interleaved =
       subst (λ (q : SendQueueState). SendsByEpoch (length direction.queued) after.history q id (asked id)) (sym same)
       (subst (λ (l : List Message). SendsByEpoch (length l) after.history old.queues.queue id (asked id)) (sym same')
-      (stays_by_epoch s.history after.history (grown_none first old direction s after more log floors counts) old.queues.queue old.queues.queue id refl (unmoved (stream_named id old.queues.queue.streams)) (length old.queued) (length old.queued) (asked id)
+      (stays_by_epoch s.history after.history (grown_none first old direction s after more log floors counts) old.queues.queue old.queues.queue id (unmoved (stream_named id old.queues.queue.streams)) (length old.queued) (length old.queued) (asked id)
       (omega arith) (e interleaved)))
 
   pub stepped_by_epoch : (direction : Direction) (few : length direction.queued < 2 ^ 64) (step : DirectionStep old direction) → direction.queues.queue.is_interleaved ≡ true
@@ -100,7 +99,7 @@ module _ (first : ℕ) (old : Direction) (small : first < 2 ^ 32) (s : Stands fi
       preparing_by_epoch ids old.queued old.queues.queue s.history id asked s.queues.cut s.queues.queue_holds (e (sym (preparing_kind ids old.queues.queue) ∙ interleaved))
   stepped_by_epoch _ few (commits go_on) interleaved =
       subst (λ (h : History). SendsByEpoch (length old.queued) h (queue_committed old.queues.queue) id (asked_ended old.queues.queue.streams asked id)) (sym (ended_raises first old small s few go_on interleaved))
-      (committing_by_epoch old.queues.queue s.history (length old.queued) id asked (subst (λ (b : Bool). CountsByKind b s.history old.queues.queue.streams old.queues.queue.under_way) interleaved s.queues.numbers.counts)
+      (committing_by_epoch old.queues.queue s.history (length old.queued) id asked (subst (λ (b : Bool). CountsByKind b s.history old.queues.queue.streams old.queues.queue.held) interleaved s.queues.numbers.counts)
       s.queues.numbers.kept (e interleaved))
   stepped_by_epoch _ few (rolls_back unmixed) interleaved = absurd (let clash : true ≡ false = sym interleaved ∙ unmixed in cc)
   stepped_by_epoch _ few (flushes endpoint draft answers same no_data allowed) interleaved =

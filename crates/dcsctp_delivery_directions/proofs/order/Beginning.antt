@@ -1,144 +1,173 @@
 -- Where an association begins whose numbers are 0, the floors of ordered messages are those of 0.
-use Rattle.std.proofs.Common.{◌≡◌, ℕ, Bool, true, false, ◌≤◌, ◌+◌, ◌%◌, ◌^◌, List, [], refl, sym, ◌∙◌, ap, arith, subst}
-use Rattle.std.specs.Prelude.{Option, None, Some}
+use Rattle.std.proofs.Common.{◌≡◌, ℕ, Bool, true, false, ◌≤◌, ◌+◌, ◌%◌, ◌^◌, List, [], ◌∷◌, refl, sym, ◌∙◌, ap, arith, subst}
+use Rattle.std.specs.Prelude.{not, Option, None, Some, is_some, if◌then◌else◌}
+use Rattle.dcsctp_spec_lemmas.specs.types.declared.ids.StreamId.{StreamId}
 use Rattle.dcsctp_spec_lemmas.specs.types.declared.sending.UnderWay.{UnderWay}
-use Rattle.dcsctp_spec_lemmas.specs.types.queues.SendStreams.{Waiting, Stream, front_of, unused_stream, stream_at}
+use Rattle.dcsctp_spec_lemmas.specs.types.queues.SendStreams.{Waiting, Stream, front_of, stream_at}
 use Rattle.dcsctp_spec_lemmas.specs.spec.queues.SendQueue.{SendQueueState}
 use Rattle.dcsctp_delivery_directions.specs.sending.Log.{Message, new_history}
-use Rattle.dcsctp_delivery_directions.specs.sending.Numbers.{stream_named, next_mid, CountsMessages, CountsSsns, CountsByKind}
-use Rattle.dcsctp_delivery_directions.specs.sending.Pieces.{IsThere, HoldsQueued}
+use Rattle.dcsctp_delivery_directions.specs.sending.Numbers.{stream_named, next_mid, LastIs, CountsMessages, CountsTurns, CountsSsns, CountsByKind, IsFromStart}
+use Rattle.dcsctp_delivery_directions.specs.sending.Pieces.{Going, IsGoing, HoldsQueued}
 use Rattle.dcsctp_delivery_directions.specs.sending.Queueing.{QueueWaits}
-use Rattle.dcsctp_delivery_directions.proofs.sending.StreamsNamed.{found_at}
+use Rattle.dcsctp_delivery_directions.proofs.sending.StreamsNamed.{named_place}
 use Rattle.dcsctp_delivery_directions.specs.directions.Directions.{RestIsUnordered, BeginsAtZero}
 
--- ordered messages are counted from the next one
-abbrev floors_of : List Stream → (ℕ → Bool → ℕ) → ℕ → Bool → ℕ
-floors_of streams floors id true = floors id true
-floors_of streams floors id false = next_mid false (stream_named id streams)
+-- is the message under way ordered, if one is?
+ordered_rest : Option UnderWay → List Waiting → Bool
+ordered_rest None messages = false
+ordered_rest (Some u) [] = false
+ordered_rest (Some u) (w ∷ messages) = not w.is_unordered
 
-abbrev counts_of : (ℕ → Bool → ℕ) → ℕ → Bool → ℕ
-counts_of counts id true = counts id true
-counts_of counts id false = 0
+has_ordered_rest : Stream → Bool
+has_ordered_rest stream = ordered_rest stream.under_way stream.messages
 
-next_of : List Stream → ℕ → Bool → ℕ
-next_of streams id is_unordered = next_mid is_unordered (stream_named id streams)
+rest_of : (u : UnderWay) (messages : List Waiting) (w : Waiting) → front_of messages ≡ Some w → ordered_rest (Some u) messages ≡ not w.is_unordered
+unfolding ordered_rest
+rest_of u [] w front = absurd (cc)
+rest_of u (v ∷ messages) w front = (let same : v ≡ w = cc in ap (λ (x : Waiting). not x.is_unordered) same)
 
-idle_counts : (streams : List Stream) → CountsMessages (new_history (next_of streams)) streams None
-unfolding next_of
-idle_counts streams =
-    record { counts = λ id b. 0; few = λ id b. omega arith; next = λ id b. omega arith; below = λ n f at. absurd (cc); apart = λ m n f g at at'. absurd (cc); going = tt }
+-- one that is, is so on its stream
+rest_named : (stream : Stream) (u : UnderWay) (w : Waiting) → stream.under_way ≡ Some u → front_of stream.messages ≡ Some w → w.is_unordered ≡ false → has_ordered_rest stream ≡ true
+unfolding has_ordered_rest
+rest_named stream u w is front ordered = ap (λ (o : Option UnderWay). ordered_rest o stream.messages) is ∙ rest_of u stream.messages w front ∙ ap not ordered
+
+none_ordered : (streams : List Stream) → RestIsUnordered streams → (id : ℕ) → has_ordered_rest (stream_named id streams) ≡ false
+unfolding has_ordered_rest ordered_rest
+none_ordered streams rest id = go (stream_named id streams).under_way refl (stream_named id streams).messages refl
+  where
+    go : (u : Option UnderWay) → (stream_named id streams).under_way ≡ u → (messages : List Waiting) → (stream_named id streams).messages ≡ messages → ordered_rest u messages ≡ false
+    go None is messages same = refl
+    go (Some u) is [] same = refl
+    go (Some u) is (w ∷ messages) same = ap not (rest id w (ap is_some is) (ap front_of same))
+
+-- ---- with interleaving
+
+module _ (streams : List Stream) (floors : ℕ → Bool → ℕ) (c : CountsMessages (new_history floors) streams) where
+  -- ordered messages are counted from the next one, if none is under way
+  floors_of : ℕ → Bool → ℕ
+  floors_of id true = floors id true
+  floors_of id false = if has_ordered_rest (stream_named id streams) then floors id false else next_mid false (stream_named id streams)
+
+  counts_of : ℕ → Bool → ℕ
+  counts_of id true = c.counts id true
+  counts_of id false = if has_ordered_rest (stream_named id streams) then c.counts id false else 0
+
+  counts_few : (id : ℕ) (is_unordered : Bool) → counts_of id is_unordered ≤ 1
+  unfolding counts_of
+  counts_few id true = c.few id true
+  counts_few id false = go (has_ordered_rest (stream_named id streams))
+    where
+      go : (b : Bool) → (if b then c.counts id false else 0) ≤ 1
+      go true = c.few id false
+      go false = omega arith
+
+  counts_next : (id : ℕ) (is_unordered : Bool) → next_mid is_unordered (stream_named id streams) % 2 ^ 32 ≡ (floors_of id is_unordered + counts_of id is_unordered) % 2 ^ 32
+  unfolding floors_of counts_of
+  counts_next id true = c.next id true
+  counts_next id false = go (has_ordered_rest (stream_named id streams))
+    where
+      go : (b : Bool) → next_mid false (stream_named id streams) % 2 ^ 32 ≡ ((if b then floors id false else next_mid false (stream_named id streams)) + (if b then c.counts id false else 0)) % 2 ^ 32
+      go true = c.next id false
+      go false = omega arith
+
+  -- the message under way is counted as before
+  last_of : (id : ℕ) (u : Option UnderWay) → (stream_named id streams).under_way ≡ u → LastIs (new_history floors) streams c.counts id u → LastIs (new_history floors_of) streams counts_of id u
+  unfolding floors_of counts_of
+  last_of id None is last = tt
+  last_of id (Some u) is last =
+      let same = kept last.waiting.is_unordered refl in
+      let floor = same.0 in
+      let count = same.1 in
+      record {
+        waiting = last.waiting;
+        front = last.front;
+        mid = last.mid;
+        is = last.is;
+        from = (let from = last.from in omega (arith, from, floor));
+        last = (let at = last.last in omega (arith, at, floor, count));
+        came = last.came;
+      }
+    where
+      kept : (b : Bool) → last.waiting.is_unordered ≡ b → (floors_of id b ≡ floors id b) × (counts_of id b ≡ c.counts id b)
+      kept true unordered = (refl, refl)
+      kept false ordered =
+          let rest = rest_named (stream_named id streams) u last.waiting is last.front ordered in (
+            ap (λ (b : Bool). if b then floors id false else next_mid false (stream_named id streams)) rest,
+            ap (λ (b : Bool). if b then c.counts id false else 0) rest,
+          )
+
+  mids_from : CountsMessages (new_history floors_of) streams
+  mids_from =
+      record {
+        counts = counts_of;
+        few = counts_few;
+        next = counts_next;
+        below = λ n f at. absurd (cc);
+        apart = λ m n f g at at'. absurd (cc);
+        going = λ id. last_of id (stream_named id streams).under_way refl (c.going id);
+      }
+
+-- ---- without it
+
+-- the next SSNs are the floors
+ssn_of : List Stream → ℕ → Bool → ℕ
+ssn_of streams id is_unordered = if has_ordered_rest (stream_named id streams) then 1 else (stream_named id streams).next_ssn
+
+-- the message under way is the oldest of its stream
+front_there : (queued : List Message) (streams : List Stream) → HoldsQueued queued [] streams → (id : ℕ) (u : UnderWay) → (stream_named id streams).under_way ≡ Some u → (w : Waiting) × (front_of (stream_named id streams).messages ≡ Some w)
+front_there queued streams holds id u is =
+    let (q, within, named, same) = named_place id streams (ap is_some is) in
+    let going : IsGoing queued [] (stream_at streams q) u = subst (λ (o : Option UnderWay). Going queued [] (stream_at streams q) o) (ap (λ (s : Stream). s.under_way) (sym same) ∙ is) (holds.going q) in
+    (going.waiting, ap (λ (s : Stream). front_of s.messages) same ∙ going.front)
+
+module _ (queued : List Message) (streams : List Stream) (held : Option StreamId) (holds : HoldsQueued queued [] streams) where
+  turns_from : (id : ℕ) → IsFromStart (new_history (ssn_of streams)) id → CountsTurns id [] streams
+  unfolding ssn_of
+  turns_from id start = go (has_ordered_rest (stream_named id streams)) refl start.floor
+    where
+      go : (b : Bool) → has_ordered_rest (stream_named id streams) ≡ b → (if b then 1 else (stream_named id streams).next_ssn) ≡ 0 → CountsTurns id [] streams
+      go true is zero = absurd (omega (arith, zero))
+      go false is zero =
+          record {
+            next = ap (λ (k : ℕ). k % 2 ^ 16) zero;
+            sent = λ n f at. absurd (cc);
+            going = λ u under. (
+                let (w, front) = front_there queued streams holds id u under in
+                record { waiting = w; front = front; last = λ ordered. absurd (let clash : true ≡ false = sym (rest_named (stream_named id streams) u w under front ordered) ∙ is in cc) }
+                );
+          }
+
+  ssns_from : CountsSsns (new_history (ssn_of streams)) streams held
+  ssns_from = record { turns = turns_from; closes = λ n f g at. absurd (cc); rests = λ idle f at. absurd (cc) }
+
+-- ---- whichever it is
 
 -- The floors of these streams, and the counts from there.
-record NumbersFrom (b : Bool) (streams : List Stream) (under_way : Option UnderWay) : Type 0 where
+record NumbersFrom (b : Bool) (streams : List Stream) (held : Option StreamId) : Type 0 where
   floors : ℕ → Bool → ℕ
-  counts : CountsByKind b (new_history floors) streams under_way
-  zero : RestIsUnordered streams under_way → ((id : ℕ) → next_mid false (stream_named id streams) % 2 ^ 32 ≡ 0) → ((id : ℕ) → (stream_named id streams).next_ssn ≡ 0) → (id : ℕ) → floors id false % 2 ^ 32 ≡ 0
-  plain : b ≡ false → RestIsUnordered streams under_way → ((id : ℕ) → (stream_named id streams).next_ssn ≡ 0) → (id : ℕ) → floors id false ≡ 0
+  counts : CountsByKind b (new_history floors) streams held
+  zero : RestIsUnordered streams → ((id : ℕ) → next_mid false (stream_named id streams) % 2 ^ 32 ≡ 0) → ((id : ℕ) → (stream_named id streams).next_ssn ≡ 0) → (id : ℕ) → floors id false % 2 ^ 32 ≡ 0
+  plain : b ≡ false → RestIsUnordered streams → ((id : ℕ) → (stream_named id streams).next_ssn ≡ 0) → (id : ℕ) → floors id false ≡ 0
 
--- the rest of an unordered message is under way
-rest_counts : (floors : ℕ → Bool → ℕ) (streams : List Stream) (u : UnderWay) (c : CountsMessages (new_history floors) streams (Some u)) → c.going.waiting.is_unordered ≡ true
-    → CountsMessages (new_history (floors_of streams floors)) streams (Some u)
-rest_counts floors streams u c is =
+numbers_from : (b : Bool) (queued : List Message) (streams : List Stream) (held : Option StreamId) (floors : ℕ → Bool → ℕ) → HoldsQueued queued [] streams → CountsByKind b (new_history floors) streams held → NumbersFrom b streams held
+unfolding floors_of ssn_of
+numbers_from true queued streams held floors holds c =
     record {
-      counts = counts_of c.counts;
-      few = few;
-      next = next;
-      below = λ n f at. absurd (cc);
-      apart = λ m n f g at at'. absurd (cc);
-      going = record {
-        waiting = c.going.waiting;
-        front = c.going.front;
-        mid = c.going.mid;
-        is = c.going.is;
-        from = subst (λ (b : Bool). floors_of streams floors u.stream_id.0 b ≤ c.going.mid) (sym is) (subst (λ (b : Bool). floors u.stream_id.0 b ≤ c.going.mid) is c.going.from);
-        last = subst (λ (b : Bool). c.going.mid + 1 ≡ floors_of streams floors u.stream_id.0 b + counts_of c.counts u.stream_id.0 b) (sym is)
-            (subst (λ (b : Bool). c.going.mid + 1 ≡ floors u.stream_id.0 b + c.counts u.stream_id.0 b) is c.going.last);
-        came = c.going.came;
-      };
+      floors = floors_of streams floors c;
+      counts = mids_from streams floors c;
+      zero = λ rest zero ssn id. ap (λ (b : Bool). (if b then floors id false else next_mid false (stream_named id streams)) % 2 ^ 32) (none_ordered streams rest id) ∙ zero id;
+      plain = λ is. absurd (cc);
+    }
+numbers_from false queued streams held floors holds c =
+    record {
+      floors = ssn_of streams;
+      counts = ssns_from queued streams held holds;
+      zero = λ rest zero ssn id. ap (λ (k : ℕ). k % 2 ^ 32) (first rest ssn id);
+      plain = λ is rest ssn id. first rest ssn id;
     }
   where
-    few : (id : ℕ) (b : Bool) → counts_of c.counts id b ≤ 0 + 1
-    few id true = c.few id true
-    few id false = omega arith
-
-    next : (id : ℕ) (b : Bool) → next_mid b (stream_named id streams) % 2 ^ 32 ≡ (floors_of streams floors id b + counts_of c.counts id b) % 2 ^ 32
-    next id true = c.next id true
-    next id false = omega arith
-
--- without interleaving the next SSNs are the floors
-ssn_of : List Stream → ℕ → Bool → ℕ
-ssn_of streams id is_unordered = (stream_named id streams).next_ssn
-
-ssns_from : (streams : List Stream) (under_way : Option UnderWay) → ((u : UnderWay) → under_way ≡ Some u → (w : Waiting) × (front_of (stream_named u.stream_id.0 streams).messages ≡ Some w) × (w.is_unordered ≡ true))
-    → CountsSsns (new_history (ssn_of streams)) streams under_way
-unfolding ssn_of
-ssns_from streams under_way rest =
-    record {
-      turns = λ id start. record {
-        next = ap (λ (k : ℕ). k % 2 ^ 16) start.floor;
-        sent = λ n f at. absurd (cc);
-        going = λ u is on. (
-            let (w, front, unordered) = rest u is in
-            record {
-              waiting = w;
-              front = subst (λ (k : ℕ). front_of (stream_named k streams).messages ≡ Some w) on front;
-              last = λ ordered. absurd (let clash : true ≡ false = sym unordered ∙ ordered in cc);
-            }
-            );
-      };
-      closes = λ n f g at. absurd (cc);
-      rests = λ idle f at. absurd (cc);
-    }
-
--- The stream of the message under way has a message.
-abbrev HasFront : List Stream → Option UnderWay → Type 0
-HasFront streams under_way = (u : UnderWay) → under_way ≡ Some u → (w : Waiting) × (front_of (stream_named u.stream_id.0 streams).messages ≡ Some w)
-
-numbers_from : (b : Bool) (streams : List Stream) (under_way : Option UnderWay) (floors : ℕ → Bool → ℕ) → HasFront streams under_way → CountsByKind b (new_history floors) streams under_way → NumbersFrom b streams under_way
-unfolding next_of ssn_of
-numbers_from false streams None floors there c =
-    record { floors = ssn_of streams; counts = ssns_from streams None (λ u is. absurd (cc)); zero = λ rest zero ssn id. ap (λ (k : ℕ). k % 2 ^ 32) (ssn id); plain = λ is rest ssn id. ssn id }
-numbers_from false streams (Some u) floors there c = by_kind (there u refl).0.is_unordered refl
-  where
-    front : front_of (stream_named u.stream_id.0 streams).messages ≡ Some (there u refl).0
-    front = (there u refl).1
-
-    by_kind : (b : Bool) → (there u refl).0.is_unordered ≡ b → NumbersFrom false streams (Some u)
-    by_kind true is =
-        record {
-          floors = ssn_of streams;
-          counts = ssns_from streams (Some u) (λ v same. (let one : u ≡ v = cc in subst (λ (x : UnderWay). (w' : Waiting) × (front_of (stream_named x.stream_id.0 streams).messages ≡ Some w') × (w'.is_unordered ≡ true)) one ((there u refl).0, front, is)));
-          zero = λ rest zero ssn id. ap (λ (k : ℕ). k % 2 ^ 32) (ssn id);
-          plain = λ same rest ssn id. ssn id;
-        }
-    by_kind false is =
-        record {
-          floors = floors;
-          counts = c;
-          zero = λ rest zero ssn id. absurd (let clash : true ≡ false = sym (rest u (there u refl).0 refl front) ∙ is in cc);
-          plain = λ same rest ssn id. absurd (let clash : true ≡ false = sym (rest u (there u refl).0 refl front) ∙ is in cc);
-        }
-numbers_from true streams None floors there c = record { floors = next_of streams; counts = idle_counts streams; zero = λ rest zero ssn id. zero id; plain = λ is. absurd (cc) }
-numbers_from true streams (Some u) floors there c = by_kind c.going.waiting.is_unordered refl
-  where
-    by_kind : (b : Bool) → c.going.waiting.is_unordered ≡ b → NumbersFrom true streams (Some u)
-    by_kind true is = record { floors = floors_of streams floors; counts = rest_counts floors streams u c is; zero = λ rest zero ssn id. zero id; plain = λ same. absurd (cc) }
-    by_kind false is =
-        record {
-          floors = floors;
-          counts = c;
-          zero = λ rest zero ssn id. absurd (let clash : true ≡ false = sym (rest u c.going.waiting refl c.going.front) ∙ is in cc);
-          plain = λ same. absurd (cc);
-        }
-
-front_there : (queued : List Message) (streams : List Stream) (under_way : Option UnderWay) → HoldsQueued queued [] streams under_way → HasFront streams under_way
-front_there queued streams None holds u is = absurd (cc)
-front_there queued streams (Some v) holds u is =
-    let one : v ≡ u = cc in
-    let there : IsThere streams v = holds.going.there in
-    let named : stream_named v.stream_id.0 streams ≡ stream_at streams there.q =
-    subst (λ (k : ℕ). stream_named k streams ≡ stream_at streams there.q) there.is (found_at (unused_stream 0 0 0) there.q streams there.within holds.distinct) in
-    (there.waiting, ap (λ (x : UnderWay). front_of (stream_named x.stream_id.0 streams).messages) (sym one) ∙ ap (λ (s : Stream). front_of s.messages) named ∙ there.front)
+    first : RestIsUnordered streams → ((id : ℕ) → (stream_named id streams).next_ssn ≡ 0) → (id : ℕ) → ssn_of streams id false ≡ 0
+    first rest ssn id = ap (λ (b : Bool). if b then 1 else (stream_named id streams).next_ssn) (none_ordered streams rest id) ∙ ssn id
 
 -- What waits, waits from these floors.
 pub record WaitsFrom (queued : List Message) (queue : SendQueueState) : Type 0 where
@@ -148,14 +177,14 @@ pub record WaitsFrom (queued : List Message) (queue : SendQueueState) : Type 0 w
 
 pub waits_from : (queued : List Message) (queue : SendQueueState) → QueueWaits queued queue → WaitsFrom queued queue
 waits_from queued queue w =
-    let n = numbers_from queue.is_interleaved queue.streams queue.under_way w.floors (front_there queued queue.streams queue.under_way w.holds.queue_holds) w.holds.numbers.counts in
+    let n = numbers_from queue.is_interleaved queued queue.streams queue.held w.floors w.holds.queue_holds w.holds.numbers.counts in
     record {
       waits = record {
         floors = n.floors;
         holds = record {
           queue_holds = w.holds.queue_holds;
           next = w.holds.next;
-          numbers = record { kinds = λ n f at. absurd (cc); counts = n.counts; kept = w.holds.numbers.kept };
+          numbers = record { kinds = λ n f at. absurd (cc); counts = n.counts; kept = w.holds.numbers.kept; whole = w.holds.numbers.whole };
         };
       };
       zero = λ b. n.zero b.rest b.zero b.ssn;

@@ -205,7 +205,7 @@ begins_in_order options first size direction small b =
     begins_so first direction (begun_stands options first size direction small b') w.waits.floors is (ap (λ (a : Asking). a.out) b.asking) (ap (λ (a : Asking). a.requests) b.asking) (λ from. w.zero (b.begun.zero from))
 
 starts_in_order : (first : ℕ) (old : Direction) (queued : List Message) (below : EndpointQueues) (beginning : Beginning) → first < 2 ^ 32 → (g : GoesInOrder first old) → (awaited : IsAwaited old) → AllByRecursion Fits queued → QueueWaits queued below.queue
-    → NoneInFlight first below.queue.is_interleaved below.transfer → BeginsAs beginning queued below.queue → GoesInOrder first (record old { queued = queued; queues = below; beginning = beginning })
+    → NoneInFlight first below.queue below.transfer → BeginsAs beginning queued below.queue → GoesInOrder first (record old { queued = queued; queues = below; beginning = beginning })
 starts_in_order first old queued below beginning small g awaited fit waits none begun =
     let w = waits_from queued below.queue waits in
     let s = started_stands first old queued below beginning g.stands awaited small fit w.waits none in

@@ -235,7 +235,7 @@ begins_few options first size direction small b =
     }
 
 starts_few : (first : ℕ) (old : Direction) (queued : List Message) (below : EndpointQueues) (beginning : Beginning) → first < 2 ^ 32 → (g : GoesFew first old) → (awaited : IsAwaited old) → AllByRecursion Fits queued → QueueWaits queued below.queue
-    → NoneInFlight first below.queue.is_interleaved below.transfer → BeginsAs beginning queued below.queue → GoesFew first (record old { queued = queued; queues = below; beginning = beginning })
+    → NoneInFlight first below.queue below.transfer → BeginsAs beginning queued below.queue → GoesFew first (record old { queued = queued; queues = below; beginning = beginning })
 starts_few first old queued below beginning small g awaited fit waits none begun =
     let w = waits_from queued below.queue waits in
     let s = started_stands first old queued below beginning g.stands awaited small fit w.waits none in

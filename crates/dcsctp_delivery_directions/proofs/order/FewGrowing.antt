@@ -83,7 +83,7 @@ takes_few queued history first read tracker incoming message messages is r = go 
     go (none_handled none last empty) =
         let t = reads_few queued history [] (known_by first tracker) 0 read incoming message messages is (empty 0) in
         let spent = t.few.holds.spent t.place (has_left t.place (read ++ t.place ∷ []) t.few.holds.places (has_right t.place read (t.place ∷ []) (inl refl))) in
-        absurd (spent.covered spent.offset (omega arith) spent.order)
+        absurd (spent.covered spent.offset spent.head spent.at_head spent.is (omega arith) spent.order)
 
 -- ---- the peer goes on
 

@@ -160,8 +160,9 @@ module _ (queued : List Message) (history : History) (cut : IsLogOfPieces queued
             | inr t ↦ absurd (let above = first_above history.log id c.offset row.from row.first t.1 in omega (arith, above, turn_is, up, reached, low))
           ] in
           let next = row.inside (c.offset + 1) (omega (arith, from)) (omega (arith, after)) in
-          let b = cut.rows (c.offset + 1) next.piece (omega arith) next.at next.inside in
-          let here : b.earlier ≡ c.offset = (let is' = b.is in omega (arith, is')) in
+          let kind : next.piece.is_interleaved ≡ false = (counts 0).kinds (c.offset + 1) next.piece next.at in
+          let b = cut.rows (c.offset + 1) next.piece next.at next.inside (inl (inl kind, omega arith)) in
+          let here : b.earlier ≡ c.offset = (let near = b.near (inl kind) in omega (arith, near)) in
           let at : at_place c.offset history.log ≡ Some (Some b.before) = subst (λ (k : ℕ). at_place k history.log ≡ Some (Some b.before)) here b.at in
           let end : is_end b.before ≡ true = ended c.slot b.before c.at at ends in
           let whole = eqb-true (b.before.start + b.before.size) (length b.before.message.payload) end in

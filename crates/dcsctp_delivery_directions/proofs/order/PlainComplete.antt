@@ -1,19 +1,22 @@
 -- Without interleaving all ordered messages of a reliable stream were received once their sender has nothing left.
 use Rattle.std.proofs.Common.{◌≡◌, ℕ, zero, suc, Bool, true, false, ◌<◌, ◌≤◌, ◌+◌, ◌-◌, ◌^◌, List, [], ◌∷◌, ◌++◌, length, refl, sym, ◌∙◌, ap, arith, subst, inl, inr}
-use Rattle.std.specs.Prelude.{Option, None, Some}
+use Rattle.std.specs.Prelude.{Option, None, Some, is_some}
 use Rattle.std.proofs.lemmas.Bool.Decides.{eqb_tells}
 use Rattle.std.proofs.lemmas.List.{append-nil}
 use Rattle.dcsctp_spec_lemmas.specs.types.declared.options.Options.{Options}
+use Rattle.dcsctp_spec_lemmas.specs.types.declared.ids.StreamId.{StreamId}
 use Rattle.dcsctp_spec_lemmas.specs.types.declared.sending.UnderWay.{UnderWay}
+use Rattle.dcsctp_spec_lemmas.specs.spec.queues.SendQueue.{SendQueueState}
 use Rattle.dcsctp_spec_lemmas.specs.types.queues.Messages.{MessageContent}
 use Rattle.dcsctp_spec_lemmas.specs.types.queues.SendStreams.{Waiting, Stream, front_of, stream_at}
 use Rattle.dcsctp_spec_lemmas.specs.spec.queues.Incoming.{stream_on}
 use Rattle.dcsctp_delivery_directions.specs.sending.Places.{HasEntry, at_place}
 use Rattle.dcsctp_delivery_directions.specs.sending.Log.{Message, Piece, Slot, History, IsLogOfPieces, newest, is_end}
-use Rattle.dcsctp_delivery_directions.specs.sending.Losing.{WasSentOf, StillWaits}
-use Rattle.dcsctp_delivery_directions.specs.sending.Numbers.{CountsSsns, CountsByKind}
-use Rattle.dcsctp_delivery_directions.specs.sending.Pieces.{Going}
+use Rattle.dcsctp_delivery_directions.specs.sending.Losing.{WasSentOf}
+use Rattle.dcsctp_delivery_directions.specs.sending.Numbers.{CountsSsns, CountsByKind, HoldsWhole}
+use Rattle.dcsctp_delivery_directions.specs.sending.Pieces.{Going, HoldsQueued}
 use Rattle.dcsctp_delivery_directions.proofs.sending.Places.{at_below, at_cases, at_some}
+use Rattle.dcsctp_delivery_directions.proofs.sending.StreamsNamed.{named_place}
 use Rattle.dcsctp_delivery_directions.specs.receiving.Ready.{WereQueued}
 use Rattle.dcsctp_delivery_directions.specs.receiving.Tracked.{tracked_number}
 use Rattle.dcsctp_delivery_directions.specs.directions.Directions.{Direction, DirectionRun, assigned_count}
@@ -68,8 +71,9 @@ module _ (queued : List Message) (history : History) (cut : IsLogOfPieces queued
             | inl e ↦ absurd (let clash : true ≡ false = sym (counts.closes n f g of.at at e.1) ∙ on in cc)
             | inr e ↦
                 (let ne : g.start ≡ 0 → ⊥ = e.1 in
-                let before = cut.rows (n + 1) g (omega arith) at (omega (arith, ne)) in
-                let here : before.earlier ≡ n = (let same = before.is in omega (arith, same)) in
+                let kind : g.is_interleaved ≡ false = counts.kinds (n + 1) g at in
+                let before = cut.rows (n + 1) g at (omega (arith, ne)) (inl (inl kind, omega arith)) in
+                let here : before.earlier ≡ n = (let near = before.near (inl kind) in omega (arith, near)) in
                 let both : Some (Some before.before) ≡ Some (Some f) = sym before.at ∙ ap (λ (k : ℕ). at_place k history.log) here ∙ of.at in
                 let one : before.before ≡ f = cc in
                 let text : g.message ≡ f.message = sym before.message ∙ ap (λ (x : Piece). x.message) one in
@@ -93,11 +97,20 @@ none_placed queued [] ready were none = refl
 none_placed queued (place ∷ places) [] were none = absurd were
 none_placed queued (place ∷ places) (content ∷ ready) were none = absurd (cc)
 
--- No message is under way where none waits.
-none_under_way : (queued : List Message) (log : List Slot) (streams : List Stream) (u : Option UnderWay) → ((q : ℕ) → (stream_at streams q).messages ≡ []) → Going queued log streams u → u ≡ None
-none_under_way queued log streams None empty going = refl
-none_under_way queued log streams (Some u) empty going =
-    absurd (let front : Some going.there.waiting ≡ None = sym going.there.front ∙ ap front_of (empty going.there.q) in cc)
+-- No stream is held where none waits.
+none_held : (queued : List Message) (log : List Slot) (queue : SendQueueState) → HoldsQueued queued log queue.streams → HoldsWhole log queue → ((q : ℕ) → (stream_at queue.streams q).messages ≡ []) → queue.held ≡ None
+none_held queued log queue holds whole empty = go queue.held refl
+  where
+    none : (q : ℕ) (u : Option UnderWay) → Going queued log (stream_at queue.streams q) u → is_some u ≡ true → ⊥
+    none q None going is = absurd (cc)
+    none q (Some u) going is = (let front : Some going.waiting ≡ None = sym going.front ∙ ap front_of (empty q) in cc)
+
+    go : (held : Option StreamId) → queue.held ≡ held → queue.held ≡ None
+    go None is = is
+    go (Some id) is =
+        let some = whole.held id.0 is in
+        let (q, within, named, same) = named_place id.0 queue.streams some in
+        absurd (none q (stream_at queue.streams q).under_way (holds.going q) (ap (λ (s : Stream). is_some s.under_way) (sym same) ∙ some))
 
 has_none : (w : Waiting) (messages : List Waiting) → messages ≡ [] → HasEntry w messages → ⊥
 has_none w [] none has = has
@@ -113,9 +126,9 @@ module _ (these : ℕ → Bool) (first size : ℕ) (small : first < 2 ^ 32) (dir
 
   rests : (f : Piece) → newest history.log ≡ Some (Some f) → is_end f ≡ true
   rests =
-      let ssns : CountsSsns history direction.queues.queue.streams direction.queues.queue.under_way =
-      subst (λ (b : Bool). CountsByKind b history direction.queues.queue.streams direction.queues.queue.under_way) kind c.stands.queues.numbers.counts in
-      ssns.rests (none_under_way direction.queued history.log direction.queues.queue.streams direction.queues.queue.under_way left.waits c.stands.queues.queue_holds.going)
+      let ssns : CountsSsns history direction.queues.queue.streams direction.queues.queue.held =
+      subst (λ (b : Bool). CountsByKind b history direction.queues.queue.streams direction.queues.queue.held) kind c.stands.queues.numbers.counts in
+      ssns.rests (none_held direction.queued history.log direction.queues.queue c.stands.queues.queue_holds c.stands.queues.numbers.whole left.waits)
 
   unlimited : (n : ℕ) (f : Piece) → CarriesOrdered history.log id n f → f.message.is_limited ≡ false
   unlimited n f of = c.counts.unlimited refl n f of.at (ap these of.stream ∙ mine)

@@ -375,7 +375,7 @@ begins_plain whole these options first size direction small kind b =
     }
 
 starts_plain : (whole : Bool) (these : ℕ → Bool) (options : Options) (first size : ℕ) (old : Direction) (queued : List Message) (below : EndpointQueues) (beginning : Beginning) → first < 2 ^ 32 → DirectionRun options first size old → Stands first old → (awaited : IsAwaited old)
-    → AllByRecursion Fits queued → QueueWaits queued below.queue → NoneInFlight first below.queue.is_interleaved below.transfer → BeginsAs beginning queued below.queue → below.queue.is_interleaved ≡ false
+    → AllByRecursion Fits queued → QueueWaits queued below.queue → NoneInFlight first below.queue below.transfer → BeginsAs beginning queued below.queue → below.queue.is_interleaved ≡ false
     → GoesPlain whole these first size (record old { queued = queued; queues = below; beginning = beginning })
 starts_plain whole these options first size old queued below beginning small run stands awaited fit waits none begun kind =
     let w = waits_from queued below.queue waits in
@@ -446,8 +446,8 @@ module _ (first : ℕ) (direction : Direction) (s : Stands first direction) (kin
 
   pub counts_plain : (id : ℕ) → ((begun : BegunReset) → HasEntry begun direction.asking.requests → names_stream begun.reset.streams id ≡ false) → CountsPlain id s.history
   counts_plain id unnamed =
-      let c : CountsSsns s.history direction.queues.queue.streams direction.queues.queue.under_way =
-      subst (λ (b : Bool). CountsByKind b s.history direction.queues.queue.streams direction.queues.queue.under_way) kind s.queues.numbers.counts in
+      let c : CountsSsns s.history direction.queues.queue.streams direction.queues.queue.held =
+      subst (λ (b : Bool). CountsByKind b s.history direction.queues.queue.streams direction.queues.queue.held) kind s.queues.numbers.counts in
       record {
         kinds = λ n f at. s.queues.numbers.kinds n f at ∙ kind;
         sent = λ n f of. (

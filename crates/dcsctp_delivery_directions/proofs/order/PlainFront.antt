@@ -30,7 +30,7 @@ use Rattle.dcsctp_delivery_directions.proofs.order.Sending.{sent_before}
 
 module _ (queued : List Message) (history : History) (cut : IsLogOfPieces queued history.log) (id : ℕ) (counts : CountsPlain id history) where
   -- The messages of a stream are sent in turn where none is left out.
-  plain_in_turn : (queue : SendQueueState) → HoldsQueued queued history.log queue.streams queue.under_way → NoneLostOn id queued history.log queue.streams → SendsInTurn queued (with_turns history) id
+  plain_in_turn : (queue : SendQueueState) → HoldsQueued queued history.log queue.streams → NoneLostOn id queued history.log queue.streams → SendsInTurn queued (with_turns history) id
   plain_in_turn queue holds lost earlier later mid on sent less =
       let s = sent_from queued history cut id counts later mid sent in
       let before : earlier < s.piece.place = (let is = s.place_is in omega (arith, is, less)) in

@@ -114,7 +114,7 @@ takes_plain whole these queued history first read tracker reassembly message mes
     go (none_handled none last empty) =
         let t = reads_plain these queued history [] 0 read reassembly.incoming message messages is (empty 0) in
         let spent = t.plain.holds.spent t.place (has_left t.place (read ++ t.place ∷ []) t.plain.holds.places (has_right t.place read (t.place ∷ []) (inl refl))) in
-        absurd (spent.covered spent.offset (omega arith) spent.order)
+        absurd (spent.covered spent.offset spent.head spent.at_head spent.is (omega arith) spent.order)
 
 -- ---- the peer goes on
 

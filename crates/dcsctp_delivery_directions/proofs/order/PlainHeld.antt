@@ -7,8 +7,8 @@ use Rattle.dcsctp_spec_lemmas.specs.types.declared.arrivals.Taken.{Taken}
 use Rattle.dcsctp_spec_lemmas.specs.spec.queues.Numbers.{fragment_place}
 use Rattle.dcsctp_spec_lemmas.specs.spec.queues.Runs.{RunModel, PartModel, WholeModel, Assembly, part_dropped, part_kept, message_whole, entry_before, holds_some, is_held_before, run_with_part, chosen, front_end, back_start, with_part, without_runs, AddsPart, run_before, run_behind}
 use Rattle.dcsctp_spec_lemmas.specs.spec.queues.IncomingStreams.{StreamModel, next_after, due, not_due, next_due, is_number_waiting, WaitsAmong, OrderedOutcome, TakesOrdered}
-use Rattle.dcsctp_delivery_directions.specs.sending.Places.{HasEntry}
-use Rattle.dcsctp_delivery_directions.specs.sending.Log.{Piece, Slot, History}
+use Rattle.dcsctp_delivery_directions.specs.sending.Places.{HasEntry, at_place}
+use Rattle.dcsctp_delivery_directions.specs.sending.Log.{Message, Piece, Slot, History, IsLogOfPieces}
 use Rattle.dcsctp_delivery_directions.proofs.sending.Places.{at_below}
 use Rattle.dcsctp_delivery_directions.specs.receiving.Rows.{AreRows}
 use Rattle.dcsctp_delivery_directions.specs.receiving.Ready.{IsOn, ordered_base}
@@ -19,6 +19,7 @@ use Rattle.dcsctp_delivery_directions.specs.order.Rising.{Rise, DeliversRow, rea
 use Rattle.dcsctp_delivery_directions.specs.order.Runs.{place_after, IsHeldForMessage, LeavesPartsHeld}
 use Rattle.dcsctp_delivery_directions.specs.order.Plain.{number_of_tsn, CountsPlain, CarriesOrdered, IsNumberedRun, IsHeldOrWaits}
 use Rattle.dcsctp_delivery_directions.proofs.order.Held.{parts_leave_held}
+use Rattle.dcsctp_delivery_directions.proofs.order.PlainRows.{some_turn, same_turn}
 use Rattle.dcsctp_delivery_directions.proofs.order.PlainMissing.{row_in}
 
 -- ---- entries of lists of runs
@@ -145,7 +146,7 @@ record BeginsAt (log : List Slot) (base id first number : ℕ) : Type 0 where
   number_is : number ≡ number_of_tsn id offset log
   first_is : first ≡ fragment_place number base + offset
 
-module _ (history : History) (id : ℕ) (counts : CountsPlain id history) (got : List ℕ) (base : ℕ) (small : base + 2 ^ 32 < 2 ^ 64)
+module _ (queued : List Message) (history : History) (cut : IsLogOfPieces queued history.log) (id : ℕ) (counts : CountsPlain id history) (got : List ℕ) (base : ℕ) (small : base + 2 ^ 32 < 2 ^ 64)
     (old : StreamModel) (rows : AreRows history.log got (ordered_base base) (IsOn history id) old.ordered) (runs : (run : RunModel) → HasEntry run old.ordered → IsNumberedRun history.log base id run)
     (n : ℕ) (f : Piece) (is : CarriesOrdered history.log id n f)
     (part : PartModel) (number_is : part.number ≡ number_of_tsn id n history.log) (place_is : part.place ≡ fragment_place part.number base + n) where
@@ -161,12 +162,25 @@ module _ (history : History) (id : ℕ) (counts : CountsPlain id history) (got :
   held_got run has low high =
       let w = row_in history.log got (ordered_base base) (IsOn history id) run old.ordered rows has in
       let first : run.first ≡ fragment_place run.number base + w.offset = placed_plain (ordered_base base) w.offset w.head run.number run.first (counts.kinds w.offset w.head w.at_head) w.first in
-      let ends = w.ends in
+      let ends = w.near (counts.kinds w.offset w.head w.at_head) in
       let few = counts.few in
       let below = at_below w.last_offset (Some w.last) history.log w.at_last in
       let below' = at_below n (Some f) history.log is.at in
       let same : run.number ≡ part.number = omega (arith, low, high, first, ends, place_is, few, below, below', small) in
-      w.covered n (omega (arith, low, first, place_is, same)) (omega (arith, high, first, ends, place_is, same))
+      w.covered n f is.at (one_message run has w.offset w.head w.at_head first same) (omega (arith, low, first, place_is, same)) (omega (arith, high, first, ends, place_is, same))
+    where
+      -- it is of the message of the part
+      one_message : (run : RunModel) → HasEntry run old.ordered → (offset : ℕ) (head : Piece) → at_place offset history.log ≡ Some (Some head) → run.first ≡ fragment_place run.number base + offset → run.number ≡ part.number → f.place ≡ head.place
+      one_message run has offset head at first same =
+          let r = runs run has in
+          let other = r.first in
+          let here : r.offset ≡ offset = omega (arith, first, other) in
+          let both : Some (Some r.piece) ≡ Some (Some head) = sym r.is.at ∙ ap (λ (k : ℕ). at_place k history.log) here ∙ at in
+          let one : r.piece ≡ head = cc in
+          let number = r.number in
+          let some = some_turn queued history cut id counts n f is in
+          let some' = some_turn queued history cut id counts r.offset r.piece r.is in
+          same_turn queued history cut id counts n r.offset f r.piece is r.is (omega (arith, number, number_is, same, some, some')) ∙ ap (λ (x : Piece). x.place) one
 
   -- a part whose TSN is new isn't dropped
   not_dropped : (HasEntry n got → ⊥) → (at : ℕ) → is_held_before at old.ordered part.place ≡ true → ⊥

@@ -130,8 +130,8 @@ module _ (queued : List Message) (history : History) (cut : IsLogOfPieces queued
         filled = rows_fill (with_turns history) id old.next new.next all more delivered are delivers.row s.filled;
         from = (let low = s.from in let up = rise_end old.next new.next delivered delivers.rising.rise in omega (arith, low, up));
         apart = parts_lie_apart part old.ordered new.ordered does.outcome does.parts s.apart;
-        runs = runs_stay history id counts got base small old rows s.runs n f is part number_is place_is does.outcome new.ordered does.parts;
-        held = held_stays history id counts got base small old rows s.runs n f is part number_is place_is new before after taken is_new from s.held does row;
+        runs = runs_stay queued history cut id counts got base small old rows s.runs n f is part number_is place_is does.outcome new.ordered does.parts;
+        held = held_stays queued history cut id counts got base small old rows s.runs n f is part number_is place_is new before after taken is_new from s.held does row;
       }
 
   whole_left : (whole : WholeModel) → whole.number ≡ part.number → (b : Bool) → after ≡ (if b then before ++ ready_with old whole else before) → MatchBool b (new.waiting ≡ not_due (next_after old.next whole) old.waiting) (WaitsAmong whole old.waiting new.waiting)

@@ -86,8 +86,9 @@ module _ (queued : List Message) (history : History) (cut : IsLogOfPieces queued
       continues : (i : ℕ) (g : Piece) → b ≤ i → GoesUpTo (i + 1) → at_place (i + 1) history.log ≡ Some (Some g) → 0 < g.start → ContinuesAt history.log first.piece.place (i + 1)
       unfolding GoesUpTo
       continues i g low goes at inside =
-          let before = cut.rows (i + 1) g (omega arith) at inside in
-          let here : before.earlier ≡ i = (let is = before.is in omega (arith, is)) in
+          let kind : g.is_interleaved ≡ false = counts.kinds (i + 1) g at in
+          let before = cut.rows (i + 1) g at inside (inl (inl kind, omega arith)) in
+          let here : before.earlier ≡ i = (let near = before.near (inl kind) in omega (arith, near)) in
           let place : before.before.place ≡ first.piece.place = elim (eqb_tells i b) [
             | inl e ↦ ap (λ (x : Piece). x.place) (one_piece before.earlier b before.before first.piece before.at first.is.at (here ∙ e.1))
             | inr e ↦
@@ -174,8 +175,9 @@ module _ (queued : List Message) (history : History) (cut : IsLogOfPieces queued
             (let more : r.last < k = e.1 in
             let low = r.from in
             let c = row'.inside (r.last + 1) (omega (arith, low, same)) (omega (arith, more)) in
-            let before = cut.rows (r.last + 1) c.piece (omega arith) c.at c.inside in
-            let one : before.before ≡ last_part.piece = one_piece before.earlier r.last before.before last_part.piece before.at last_part.is.at (let is = before.is in omega (arith, is)) in
+            let kind : c.piece.is_interleaved ≡ false = counts.kinds (r.last + 1) c.piece c.at in
+            let before = cut.rows (r.last + 1) c.piece c.at c.inside (inl (inl kind, omega arith)) in
+            let one : before.before ≡ last_part.piece = one_piece before.earlier r.last before.before last_part.piece before.at last_part.is.at (let near = before.near (inl kind) in omega (arith, near)) in
             let stop : last_part.piece.start + last_part.piece.size ≡ length last_part.piece.message.payload = eqb-true (last_part.piece.start + last_part.piece.size) (length last_part.piece.message.payload) ended in
             let start : last_part.piece.start + last_part.piece.size ≡ c.piece.start = ap (λ (y : Piece). y.start + y.size) (sym one) ∙ before.start in
             let text : last_part.piece.message ≡ c.piece.message = ap (λ (y : Piece). y.message) (sym one) ∙ before.message in
@@ -255,7 +257,7 @@ module _ (queued : List Message) (history : History) (cut : IsLogOfPieces queued
               up = within w.last_offset w.last last_row (begins_with last_row.from one_row.from both_rows from);
               turn = turn;
               begins_at = place_so run.first run.number w.offset place named;
-              ends_at = (let ends = w.ends in let at = place_so run.first run.number w.offset place named in omega (arith, ends, at));
+              ends_at = (let ends = w.near (counts.kinds w.offset w.head w.at_head) in let at = place_so run.first run.number w.offset place named in omega (arith, ends, at));
               beginning = w.beginning;
               end' = w.end;
               last_from = (let up = last_row.up_to in omega (arith, up, from, both_rows));
@@ -272,8 +274,9 @@ module _ (queued : List Message) (history : History) (cut : IsLogOfPieces queued
                   (let less : x.last_offset < r.last = t.1 in
                   let low = x.last_from in
                   let c = r.goes (x.last_offset + 1) (omega (arith, low)) (omega (arith, less)) in
-                  let before = cut.rows (x.last_offset + 1) c.piece (omega arith) c.at c.inside in
-                  let one : before.before ≡ x.last = one_piece before.earlier x.last_offset before.before x.last before.at x.at_last (let is = before.is in omega (arith, is)) in
+                  let kind : c.piece.is_interleaved ≡ false = counts.kinds (x.last_offset + 1) c.piece c.at in
+                  let before = cut.rows (x.last_offset + 1) c.piece c.at c.inside (inl (inl kind, omega arith)) in
+                  let one : before.before ≡ x.last = one_piece before.earlier x.last_offset before.before x.last before.at x.at_last (let near = before.near (inl kind) in omega (arith, near)) in
                   let stop : x.last.start + x.last.size ≡ length x.last.message.payload = eqb-true (x.last.start + x.last.size) (length x.last.message.payload) e in
                   let start : x.last.start + x.last.size ≡ c.piece.start = ap (λ (y : Piece). y.start + y.size) (sym one) ∙ before.start in
                   let text : x.last.message ≡ c.piece.message = x.text ∙ sym (one_text (x.last_offset + 1) b c.piece first.piece c.at first.is.at c.is) in

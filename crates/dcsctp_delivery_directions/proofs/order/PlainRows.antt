@@ -116,8 +116,9 @@ module _ (queued : List Message) (history : History) (cut : IsLogOfPieces queued
     where
       later : ((g : Piece) → CarriesOrdered history.log id n g → RowOf history.log id g.place n) → 0 < f.start → RowOf history.log id f.place (suc n)
       later earlier inside =
-          let before = cut.rows (suc n) f (omega arith) is.at inside in
-          let here : before.earlier ≡ n = (let same = before.is in omega (arith, same)) in
+          let kind : f.is_interleaved ≡ false = counts.kinds (suc n) f is.at in
+          let before = cut.rows (suc n) f is.at inside (inl (inl kind, omega arith)) in
+          let here : before.earlier ≡ n = (let near = before.near (inl kind) in omega (arith, near)) in
           let at : at_place n history.log ≡ Some (Some before.before) = ap (λ (k : ℕ). at_place k history.log) (sym here) ∙ before.at in
           let rest = earlier before.before (record { at = at; stream = ap (λ (m : Message). m.stream) before.message ∙ is.stream; ordered = ap (λ (m : Message). m.is_unordered) before.message ∙ is.ordered }) in
           let one : n + 1 ≡ suc n = omega arith in

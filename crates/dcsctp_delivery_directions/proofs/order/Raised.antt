@@ -1,13 +1,12 @@
 -- A reset ends: the messages of the streams that were handed out are numbered from 0 again, and these
 -- streams are in order, as before they were quiet.
 use Rattle.std.proofs.Common.{◌≡◌, ℕ, Bool, true, false, ◌<◌, ◌≤◌, ◌+◌, ◌*◌, ◌^◌, List, [], ◌∷◌, ◌++◌, length, refl, sym, ◌∙◌, ap, arith, subst, inl, inr}
-use Rattle.std.specs.Prelude.{◌⊎◌, if◌then◌else◌, Option, Some}
+use Rattle.std.specs.Prelude.{◌⊎◌, if◌then◌else◌, Some}
 use Rattle.dcsctp_spec_lemmas.specs.spec.queues.Runs.{WholeModel}
 use Rattle.dcsctp_spec_lemmas.specs.spec.queues.IncomingStreams.{StreamModel, new_stream}
 use Rattle.dcsctp_spec_lemmas.specs.spec.queues.Incoming.{stream_on}
 use Rattle.dcsctp_spec_lemmas.specs.spec.queues.Reassembly.{ReassemblyState, waiting_of}
 use Rattle.dcsctp_spec_lemmas.specs.types.queues.SendStreams.{Stream}
-use Rattle.dcsctp_spec_lemmas.specs.types.declared.sending.UnderWay.{UnderWay}
 use Rattle.dcsctp_spec_lemmas.specs.spec.queues.Tracker.{TrackerState}
 use Rattle.dcsctp_delivery_directions.specs.sending.Places.{at_place}
 use Rattle.dcsctp_delivery_directions.specs.sending.Log.{Message, Piece, History, IsLogOfPieces, sent_messages}
@@ -28,9 +27,9 @@ use Rattle.dcsctp_delivery_directions.proofs.order.Unsent.{unsent_ordered}
 -- ---- a stream whose floor is raised
 
 -- Nothing that was sent on it is current then.
-pub none_current_now : (history : History) (streams : List Stream) (under_way : Option UnderWay) → CountsMessages history streams under_way → (id : ℕ) → is_handed_out (stream_named id streams).pause ≡ true → (n : ℕ) (f : Piece)
+pub none_current_now : (history : History) (streams : List Stream) → CountsMessages history streams → (id : ℕ) → is_handed_out (stream_named id streams).pause ≡ true → (n : ℕ) (f : Piece)
     → at_place n history.log ≡ Some (Some f) → f.message.stream ≡ id → IsCurrent (floors_raised streams history) f → ⊥
-none_current_now history streams under_way counts id handed n f at on is =
+none_current_now history streams counts id handed n f at on is =
     let below = counts.below n f at in
     let few = counts.few f.message.stream f.message.is_unordered in
     let high : 2 ^ 32 * (history.floors f.message.stream f.message.is_unordered + length history.log + 1) ≤ f.mid =

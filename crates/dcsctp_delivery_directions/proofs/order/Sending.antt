@@ -1,20 +1,19 @@
 -- None that was queued is left out.
-use Rattle.std.proofs.Common.{◌≡◌, ℕ, Bool, true, false, ◌<◌, ◌≤◌, List, [], ◌∷◌, length, drop, refl, sym, ◌∙◌, ap, arith, subst, inl, inr}
-use Rattle.std.specs.Prelude.{◌⊎◌, Option, None, Some, if◌then◌else◌}
-use Rattle.std.proofs.lemmas.Bool.Decides.{eqb_tells}
+use Rattle.std.proofs.Common.{◌≡◌, ℕ, Bool, false, ◌<◌, ◌≤◌, List, [], ◌∷◌, length, drop, refl, sym, ◌∙◌, ap, arith, subst, inl, inr}
+use Rattle.std.specs.Prelude.{◌⊎◌, Option, None, Some, is_some, if◌then◌else◌}
 use Rattle.dcsctp_spec_lemmas.specs.spec.endpoint.Event.{Event}
 use Rattle.dcsctp_spec_lemmas.specs.types.declared.sending.UnderWay.{UnderWay}
 use Rattle.dcsctp_spec_lemmas.specs.types.queues.SendStreams.{Waiting, front_of, stream_at}
 use Rattle.dcsctp_spec_lemmas.specs.spec.queues.SendQueue.{SendQueueState}
-use Rattle.dcsctp_spec_lemmas.specs.spec.queues.Sending.{Fragment, after_part, after_last, is_last, TakesFragment}
+use Rattle.dcsctp_spec_lemmas.specs.spec.queues.Sending.{Fragment, TakesFragment}
 use Rattle.dcsctp_delivery_directions.specs.sending.Places.{HasEntry, at_place}
 use Rattle.dcsctp_delivery_directions.specs.sending.Log.{Message, Piece, Slot, History, IsLogOfPieces}
 use Rattle.dcsctp_delivery_directions.specs.sending.Numbers.{AreCurrent}
-use Rattle.dcsctp_delivery_directions.specs.sending.Pieces.{AllBeyond, unbegun, Going, HoldsQueued, HandsOutPiece}
+use Rattle.dcsctp_delivery_directions.specs.sending.Pieces.{AllBeyond, Going, HoldsQueued, HandsOutPiece}
 use Rattle.dcsctp_delivery_directions.proofs.sending.Places.{at_new, at_stays}
-use Rattle.dcsctp_delivery_directions.proofs.sending.Streams.{newest_at}
+use Rattle.dcsctp_delivery_directions.proofs.sending.Newest.{newest_found, newest_none}
 use Rattle.dcsctp_delivery_directions.proofs.sending.Losing.{queued_of}
-use Rattle.dcsctp_delivery_directions.proofs.sending.WhatWaits.{no_drops, part_waits, last_waits}
+use Rattle.dcsctp_delivery_directions.proofs.sending.WhatWaits.{no_drops, produced_waits}
 use Rattle.dcsctp_delivery_directions.specs.order.Queue.{IsOrderedOn}
 use Rattle.dcsctp_delivery_directions.specs.order.Reading.{CountsFromZero}
 use Rattle.dcsctp_delivery_directions.specs.order.Gaps.{SendsInTurn}
@@ -37,34 +36,24 @@ handing_loses_none queued history now max old new told_before told_after part ne
     taken = ap (λ (f : Fragment). f.message_id) (sym does.is) ∙ hands.says.named
 
     by_wait : StillWaits old.streams place → WasSentOf (Some hands.piece ∷ history.log) place ⊎ StillWaits new.streams place
-    by_wait waits = subst (λ (q : SendQueueState). WasSentOf (Some hands.piece ∷ history.log) place ⊎ StillWaits q.streams place) (sym does.left) (go (is_last max does.message does.under_way))
-      where
-        has : HasEntry waits.waiting (stream_at does.queue.streams waits.q).messages
-        has = subst (λ (q : SendQueueState). HasEntry waits.waiting (stream_at q.streams waits.q).messages) (sym same) waits.has
-
-        go : (b : Bool) → WasSentOf (Some hands.piece ∷ history.log) place ⊎ StillWaits (if b then after_last does.place does.message does.under_way does.queue else after_part does.place max does.message does.under_way does.queue).streams place
-        go false = inr (record { q = waits.q; waiting = waits.waiting; has = part_waits does.place does.message does.under_way does.queue does.front max waits.q waits.waiting has; is = waits.is })
-        go true =
-            elim (last_waits does.place does.message does.under_way does.queue does.front waits.q waits.waiting has) [
-              | inl gone ↦
-                  inl (record {
-                    number = length history.log;
-                    piece = hands.piece;
-                    at = at_new (Some hands.piece) history.log;
-                    is = sym taken ∙ ap (λ (w : Waiting). w.message_id) (sym gone) ∙ waits.is;
-                  })
-              | inr left ↦ inr (record { q = waits.q; waiting = waits.waiting; has = left; is = waits.is })
-            ]
+    by_wait waits =
+        let has : HasEntry waits.waiting (stream_at does.queue.streams waits.q).messages = subst (λ (q : SendQueueState). HasEntry waits.waiting (stream_at q.streams waits.q).messages) (sym same) waits.has in
+        elim (produced_waits does.place does.message does.under_way does.queue does.front max waits.q waits.waiting has) [
+          | inl gone ↦
+              inl (record {
+                number = length history.log;
+                piece = hands.piece;
+                at = at_new (Some hands.piece) history.log;
+                is = sym taken ∙ ap (λ (w : Waiting). w.message_id) (sym gone) ∙ waits.is;
+              })
+          | inr left ↦ inr (record { q = waits.q; waiting = waits.waiting; has = subst (λ (q : SendQueueState). HasEntry waits.waiting (stream_at q.streams waits.q).messages) (sym does.left) left; is = waits.is })
+        ]
 
 -- ---- in turn
 
 beyond_of : (place : ℕ) (messages : List Waiting) (w : Waiting) → AllBeyond place messages → HasEntry w messages → place < w.message_id
 beyond_of place [] w are has = absurd has
 beyond_of place (v ∷ messages) w are has = elim has [ inl e ↦ subst (λ (x : Waiting). place < x.message_id) (sym e) are.0 | inr t ↦ beyond_of place messages w are.1 t ]
-
-some_slot : (log : List Slot) (n : ℕ) (f : Piece) → at_place n log ≡ Some (Some f) → log ≡ [] → ⊥
-some_slot [] n f at e = absurd (cc)
-some_slot (s ∷ log) n f at e = absurd (cc)
 
 -- A piece of the ordered message of this place was sent, on this stream.
 pub record IsSentOn (log : List Slot) (id place : ℕ) : Type 0 where
@@ -77,7 +66,7 @@ pub record IsSentOn (log : List Slot) (id place : ℕ) : Type 0 where
 
 -- A message of the stream that was queued before one that was sent was sent as well, since the queue hands them out in turn.
 module _ (queued : List Message) (log : List Slot) (queue : SendQueueState) (cut : IsLogOfPieces queued log)
-    (holds : HoldsQueued queued log queue.streams queue.under_way)
+    (holds : HoldsQueued queued log queue.streams)
     (id earlier number : ℕ) (lost : NoneLostOn id queued log queue.streams) (piece : Piece) (on : IsOrderedOn queued id earlier) (at : at_place number log ≡ Some (Some piece)) (stream : piece.message.stream ≡ id) (less : earlier < piece.place) where
   its_stream : (waits : StillWaits queue.streams earlier) → (stream_at queue.streams waits.q).id ≡ id
   its_stream waits =
@@ -89,28 +78,24 @@ module _ (queued : List Message) (log : List Slot) (queue : SendQueueState) (cut
   too_late : (waits : StillWaits queue.streams earlier) (messages : List Waiting) → AllBeyond piece.place messages → HasEntry waits.waiting messages → ⊥
   too_late waits messages are has = (let up = beyond_of piece.place messages waits.waiting are has in let is = waits.is in omega (arith, up, is, less))
 
-  by_wait : (waits : StillWaits queue.streams earlier) (u : Option UnderWay) → Going queued log queue.streams u → AllBeyond piece.place (unbegun u (stream_at queue.streams waits.q)) → WasSentOf log earlier
+  by_wait : (waits : StillWaits queue.streams earlier) (u : Option UnderWay) → Going queued log (stream_at queue.streams waits.q) u
+      → AllBeyond piece.place (drop (if is_some u then 1 else 0) (stream_at queue.streams waits.q).messages) → WasSentOf log earlier
   by_wait waits None going are = absurd (too_late waits (stream_at queue.streams waits.q).messages are waits.has)
-  by_wait waits (Some under_way) going are =
-      elim (eqb_tells (stream_at queue.streams waits.q).id under_way.stream_id.0) [
-        | inr e ↦ absurd (too_late waits (stream_at queue.streams waits.q).messages (rw e.0 at are) waits.has)
-        | inl e ↦ first (stream_at queue.streams waits.q).messages refl waits.has (rw e.0 at are) e.1
-      ]
+  by_wait waits (Some under_way) going are = first (stream_at queue.streams waits.q).messages refl waits.has are
     where
-      first : (messages : List Waiting) → (stream_at queue.streams waits.q).messages ≡ messages → HasEntry waits.waiting messages → AllBeyond piece.place (drop 1 (stream_at queue.streams waits.q).messages)
-          → (stream_at queue.streams waits.q).id ≡ under_way.stream_id.0 → WasSentOf log earlier
-      first [] is has are' here = absurd has
-      first (v ∷ messages) is has are' here =
+      first : (messages : List Waiting) → (stream_at queue.streams waits.q).messages ≡ messages → HasEntry waits.waiting messages → AllBeyond piece.place (drop 1 (stream_at queue.streams waits.q).messages) → WasSentOf log earlier
+      first [] is has are' = absurd has
+      first (v ∷ messages) is has are' =
           elim has [
             | inr t ↦ absurd (too_late waits messages (subst (λ (l : List Waiting). AllBeyond piece.place (drop 1 l)) is are') t)
             | inl e ↦
-                (let front : front_of (stream_at queue.streams waits.q).messages ≡ Some waits.waiting = ap front_of is ∙ ap (λ (w : Waiting). Some w) (sym e) in
-                let its = going.front waits.q waits.waiting here front in
+                (let both : Some waits.waiting ≡ Some going.waiting = ap (λ (w : Waiting). Some w) e ∙ sym (ap front_of is) ∙ going.front in
+                let its : waits.waiting ≡ going.waiting = cc in
                 elim going.came [
-                  | inl nothing ↦ absurd (some_slot log number piece at nothing)
+                  | inl nothing ↦ absurd (newest_none under_way.stream_id.0 log nothing number piece at (stream ∙ sym (its_stream waits) ∙ going.is))
                   | inr came ↦
-                      (let (k, next, last) = newest_at log (Some came.piece) came.at in
-                      record { number = k; piece = came.piece; at = last; is = came.is ∙ sym its ∙ waits.is })
+                      (let newest = newest_found under_way.stream_id.0 log came.piece came.at in
+                      record { number = newest.number; piece = came.piece; at = newest.at; is = came.is ∙ sym going.named ∙ ap (λ (w : Waiting). w.message_id) (sym its) ∙ waits.is })
                 ])
           ]
 
@@ -131,12 +116,12 @@ module _ (queued : List Message) (log : List Slot) (queue : SendQueueState) (cut
   sent_before =
       elim (lost earlier on.message on.at on.stream) [
         | inl was ↦ was_sent was
-        | inr waits ↦ was_sent (by_wait waits queue.under_way holds.going (holds.beyond waits.q number piece at (stream ∙ sym (its_stream waits))))
+        | inr waits ↦ was_sent (by_wait waits (stream_at queue.streams waits.q).under_way (holds.going waits.q) (holds.beyond waits.q number piece at (stream ∙ sym (its_stream waits))))
       ]
 
 -- It suffices that this holds of the stream.
 pub sends_in_turn_on : (queued : List Message) (history : History) (id : ℕ) (queue : SendQueueState) → CountsFromZero history id → CurrentOn id history → IsLogOfPieces queued history.log
-    → HoldsQueued queued history.log queue.streams queue.under_way → NoneLostOn id queued history.log queue.streams → SendsInTurn queued history id
+    → HoldsQueued queued history.log queue.streams → NoneLostOn id queued history.log queue.streams → SendsInTurn queued history id
 sends_in_turn_on queued history id queue counts current cut holds lost earlier later mid on sent less =
     let before : earlier < sent.piece.place = (let is = sent.is in omega (arith, is, less)) in
     let was = sent_before queued history.log queue cut holds id earlier sent.offset lost sent.piece on sent.at sent.stream before in
@@ -147,6 +132,6 @@ sends_in_turn_on queued history id queue counts current cut holds lost earlier l
     )
 
 pub sends_in_turn : (queued : List Message) (history : History) (id : ℕ) (queue : SendQueueState) → CountsFromZero history id → AreCurrent history history.log → IsLogOfPieces queued history.log
-    → HoldsQueued queued history.log queue.streams queue.under_way → NoneLost queued history.log queue.streams → SendsInTurn queued history id
+    → HoldsQueued queued history.log queue.streams → NoneLost queued history.log queue.streams → SendsInTurn queued history id
 sends_in_turn queued history id queue counts current cut holds lost =
     sends_in_turn_on queued history id queue counts (λ n f at on. current n f at) cut holds (λ place message at on. lost place message at)

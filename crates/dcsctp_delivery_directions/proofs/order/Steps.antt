@@ -184,6 +184,6 @@ module _ (watch : ℕ → Watch) (first : ℕ) (old : Direction) (small : first 
         quiet = none_quiet;
         received = raised_in_order watch old.queued s.history old.queues.queue.streams s.queues.cut kinds counts a.quiet (λ id is. (a.silent id is).handed) first old.tracker.cumulative old.reassembly
             (is_over first old s one (arrived.cleared interleaved performed))
-            (none_current_now s.history old.queues.queue.streams old.queues.queue.under_way (subst (λ (b : Bool). CountsByKind b s.history old.queues.queue.streams old.queues.queue.under_way) interleaved s.queues.numbers.counts)) a.places old.tracker a.received;
+            (none_current_now s.history old.queues.queue.streams (subst (λ (b : Bool). CountsByKind b s.history old.queues.queue.streams old.queues.queue.held) interleaved s.queues.numbers.counts)) a.places old.tracker a.received;
         silent = λ id is. absurd (cc);
       }

@@ -365,7 +365,7 @@ begins_gapless gapless options first size direction small b kept =
     (λ from. w.zero (b.begun.zero from)) (λ id is. b.begun.all id (kept id is))
 
 starts_gapless : (gapless : ℕ → Bool) (first : ℕ) (old : Direction) (queued : List Message) (below : EndpointQueues) (beginning : Beginning) → first < 2 ^ 32 → (stands : Stands first old) → (awaited : IsAwaited old) → AllByRecursion Fits queued
-    → QueueWaits queued below.queue → NoneInFlight first below.queue.is_interleaved below.transfer → BeginsAs beginning queued below.queue → AreKept gapless beginning
+    → QueueWaits queued below.queue → NoneInFlight first below.queue below.transfer → BeginsAs beginning queued below.queue → AreKept gapless beginning
     → GoesOnGapless gapless first (record old { queued = queued; queues = below; beginning = beginning })
 starts_gapless gapless first old queued below beginning small stands awaited fit waits none begun kept =
     let w = waits_from queued below.queue waits in

@@ -53,7 +53,7 @@ takes_in_order watch queued history quiet first read tracker reassembly message 
     go (none_handled none last empty) =
         let t = taking_in_order watch queued history quiet [] 0 read reassembly.incoming message messages is (empty 0) in
         let spent = t.ordered.holds.spent t.place (has_left t.place (read ++ t.place ∷ []) t.ordered.holds.places (has_right t.place read (t.place ∷ []) (inl refl))) in
-        absurd (spent.covered spent.offset (omega arith) spent.order)
+        absurd (spent.covered spent.offset spent.head spent.at_head spent.is (omega arith) spent.order)
 
 -- ---- the peer goes on
 

@@ -64,7 +64,7 @@ module _ (queued : List Message) (history : History) (empty : history.log ≡ []
   no_cut =
       record {
         pieces = λ n f at. absurd (nowhere n (Some f) at);
-        rows = λ n f some at started. absurd (nowhere n (Some f) at);
+        rows = λ n f at started earlier. absurd (nowhere n (Some f) at);
         ascends = λ m n f g less at at'. absurd (nowhere m (Some f) at);
         climbs = λ m n f g less at at'. absurd (nowhere m (Some f) at);
         shuts = λ n f at. absurd (nowhere n (Some f) at);

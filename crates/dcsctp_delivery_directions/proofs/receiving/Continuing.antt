@@ -1,5 +1,5 @@
 -- What was received of a peer stays so as the peer's history continues.
-use Rattle.std.proofs.Common.{◌≡◌, ℕ, Bool, true, false, ◌≤◌, ◌+◌, List, [], ◌∷◌, length, arith, subst, inl, inr}
+use Rattle.std.proofs.Common.{◌≡◌, ℕ, Bool, true, false, ◌≤◌, ◌+◌, List, [], ◌∷◌, length, sym, ◌∙◌, ap, arith, subst, inl, inr}
 use Rattle.std.specs.Prelude.{◌⊎◌, Option, None, Some}
 use Rattle.std.specs.List.{AllByRecursion}
 use Rattle.dcsctp_spec_lemmas.specs.types.declared.arrivals.SkippedTo.{SkippedTo}
@@ -11,6 +11,7 @@ use Rattle.dcsctp_spec_lemmas.specs.spec.queues.Reassembly.{WaitingModel, Waitin
 use Rattle.dcsctp_delivery_directions.specs.sending.Places.{HasEntry, at_place}
 use Rattle.dcsctp_delivery_directions.specs.sending.Log.{Piece, Slot, Mark, History}
 use Rattle.dcsctp_delivery_directions.specs.sending.Numbers.{IsCurrent}
+use Rattle.dcsctp_delivery_directions.proofs.sending.Places.{at_below, at_some}
 use Rattle.dcsctp_delivery_directions.proofs.sending.Extended.{IsAsOne}
 use Rattle.dcsctp_delivery_directions.specs.receiving.Rows.{IsPieceRow, AreRows, Spent}
 use Rattle.dcsctp_delivery_directions.specs.receiving.Ready.{IsNumberedAs, IsOn, IsApart, ReadsMids, NamesCurrent}
@@ -43,6 +44,15 @@ module _ (history wider : History) (goes : GoesOn history wider) where
         below = λ n f at on kind is. w.below n f (goes.stays n (Some f) at) on kind (goes.current n f at is);
       })
 
+  -- what the later log has up to a TSN of the earlier one, that has too
+  earlier_at : (n last : ℕ) (slot up_to : Slot) → at_place last history.log ≡ Some up_to → n ≤ last → at_place n wider.log ≡ Some slot → at_place n history.log ≡ Some slot
+  earlier_at n last slot up_to at_last to at =
+      let below = at_below last up_to history.log at_last in
+      let (found, is) = at_some n history.log (omega (arith, to, below)) in
+      let both : Some found ≡ Some slot = sym (goes.stays n found is) ∙ at in
+      let same : found ≡ slot = cc in
+      is ∙ ap Some same
+
   module _ (got : List ℕ) (base : ℕ → ℕ) (Named Other : Piece → ℕ → Type 0) (less : (n : ℕ) (f : Piece) (number : ℕ) → at_place n history.log ≡ Some (Some f) → Named f number → Other f number) where
     row_more : (run : RunModel) → IsPieceRow history.log got base Named run → IsPieceRow wider.log got base Other run
     row_more run row =
@@ -54,9 +64,11 @@ module _ (history wider : History) (goes : GoesOn history wider) where
           at_head = goes.stays row.offset (Some row.head) row.at_head;
           at_last = goes.stays row.last_offset (Some row.last) row.at_last;
           first = row.first;
-          ends = row.ends;
+          later = row.later;
+          fsns = row.fsns;
+          near = row.near;
           some = row.some;
-          covered = row.covered;
+          covered = λ n f at of from to. row.covered n f (earlier_at n row.last_offset (Some f) (Some row.last) row.at_last to at) of from to;
           place = row.place;
           message = row.message;
           order = row.order;
@@ -85,7 +97,7 @@ module _ (history wider : History) (goes : GoesOn history wider) where
         same = s.same;
         ends = s.ends;
         order = s.order;
-        covered = s.covered;
+        covered = λ n f at of from to. s.covered n f (earlier_at n s.last_offset (Some f) (Some s.last) s.at_last to at) of from to;
       }
 
   carries_more : (first offset tsn : ℕ) (chunk : ChunkModel) → CarriesCurrent history first offset tsn chunk → CarriesCurrent wider first offset tsn chunk

@@ -51,7 +51,9 @@ module _ (queued : List Message) (history : History) (streams : List Stream) whe
         at_head = row.at_head;
         at_last = row.at_last;
         first = row.first;
-        ends = row.ends;
+        later = row.later;
+        fsns = row.fsns;
+        near = row.near;
         some = row.some;
         covered = row.covered;
         place = row.place;

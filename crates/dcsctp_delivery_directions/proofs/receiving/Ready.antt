@@ -8,8 +8,7 @@ use Rattle.dcsctp_spec_lemmas.specs.spec.queues.Numbers.{number_near, short_numb
 use Rattle.dcsctp_spec_lemmas.specs.spec.queues.Runs.{RunModel, WholeModel, Assembly, part_dropped, part_kept, message_whole}
 use Rattle.dcsctp_spec_lemmas.specs.spec.queues.IncomingStreams.{StreamModel, ChunkModel, data_part, delivered_as, UnorderedOutcome, TakesAhead, TakesInOrder, TakesOutOfOrder, is_number_waiting, TakesNumberedPart, numbered_part}
 use Rattle.dcsctp_spec_lemmas.specs.spec.queues.Incoming.{IncomingModel, stream_on, TakesChunk, TakesIncomingChunk}
-use Rattle.std.specs.Prelude.{Some}
-use Rattle.dcsctp_delivery_directions.specs.sending.Places.{HasEntry, at_place, table_with}
+use Rattle.dcsctp_delivery_directions.specs.sending.Places.{HasEntry, table_with}
 use Rattle.dcsctp_delivery_directions.specs.sending.Log.{Message, History, IsLogOfPieces, sent_messages}
 use Rattle.dcsctp_delivery_directions.specs.receiving.Rows.{IsPiecePlaced, IsPart, AreRows, Spent, MakesQueued}
 use Rattle.dcsctp_delivery_directions.specs.receiving.Ready.{IsOn, IsApart, IsOfStream, ReadsMids, ordered_base, unordered_base, StreamRows, AreDistinct, WaitQueued, StreamHolds, HoldsAll, HoldsIncoming, IsNumbered, BearsPiece, held_messages}

@@ -8,7 +8,7 @@ use Rattle.dcsctp_spec_lemmas.specs.spec.queues.Runs.{RunModel, PartModel, Whole
 use Rattle.dcsctp_delivery_directions.specs.sending.Places.{HasEntry, at_place}
 use Rattle.dcsctp_delivery_directions.specs.sending.Log.{Message, Piece, Slot, IsLogOfPieces}
 use Rattle.dcsctp_delivery_directions.specs.receiving.Rows.{IsPart, IsPieceRow, AreRows, IsQueued, MakesQueued}
-use Rattle.dcsctp_delivery_directions.proofs.receiving.Chaining.{OneKind, offsets_follow}
+use Rattle.dcsctp_delivery_directions.proofs.receiving.Chaining.{OneKind, data_alone, interleaved_alone, ComesAfter, rows_follow}
 use Rattle.dcsctp_delivery_directions.proofs.receiving.Joining.{same_merged, stretched, started, both, joined_two, denied}
 
 module _ (queued : List Message) (log : List Slot) (cut : IsLogOfPieces queued log) (told : OneKind log) (got : List ℕ) (base : ℕ → ℕ) (Named : Piece → ℕ → Type 0)
@@ -24,9 +24,11 @@ module _ (queued : List Message) (log : List Slot) (cut : IsLogOfPieces queued l
         at_head = is.at;
         at_last = is.at;
         first = is.place;
-        ends = omega arith;
+        later = omega arith;
+        fsns = refl;
+        near = λ kind. omega arith;
         some = omega arith;
-        covered = λ k from to. (let same : k ≡ is.offset = omega arith in subst (λ (n : ℕ). HasEntry n got) (sym same) has);
+        covered = λ n f at of from to. (let same : n ≡ is.offset = omega (arith, from, to) in subst (λ (k : ℕ). HasEntry k got) (sym same) has);
         place = refl;
         message = refl;
         order = omega arith;
@@ -37,18 +39,28 @@ module _ (queued : List Message) (log : List Slot) (cut : IsLogOfPieces queued l
         end = is.end;
       }
 
+  -- without interleaving two runs lie on TSNs in a row
+  chained_near : (front back : RunModel) → (f : IsPieceRow log got base Named front) → (b : IsPieceRow log got base Named back) → ComesAfter log f.last_offset f.last b.offset b.head → f.head.is_interleaved ≡ false
+      → b.last_offset + 1 ≡ f.offset + length (front.payloads ++ back.payloads)
+  chained_near front back f b after kind = go told
+    where
+      go : OneKind log → b.last_offset + 1 ≡ f.offset + length (front.payloads ++ back.payloads)
+      go (interleaved_alone kinds few) = (let clash : true ≡ false = sym (kinds f.offset f.head f.at_head) ∙ kind in absurd (cc))
+      go (data_alone kinds) =
+          let other = kinds b.offset b.head b.at_head in
+          let near = f.near kind in
+          let near' = b.near other in
+          let next = after.near other in
+          omega (arith, near, near', next, length-append front.payloads back.payloads)
+
   -- two runs in one
   chained_row : (front back : RunModel) → IsPieceRow log got base Named front → IsPieceRow log got base Named back → back.first ≡ front.first + length front.payloads → front.number ≡ back.number → back.has_beginning ≡ false
       → IsPieceRow log got base Named (chained_run front back)
   chained_row front back f b follows same_number goes_on =
-      let next = offsets_follow queued log cut told got base Named tells front back f b follows same_number in
-      let before = cut.rows b.offset b.head (omega (arith, next, f.ends, f.some)) b.at_head (started b.head (sym b.beginning ∙ goes_on)) in
-      let place_is : before.earlier ≡ f.last_offset = omega (arith, before.is, f.ends, next) in
-      let found : at_place f.last_offset log ≡ Some (Some before.before) = subst (λ (k : ℕ). at_place k log ≡ Some (Some before.before)) place_is before.at in
-      let same' : Some (Some before.before) ≡ Some (Some f.last) = sym found ∙ f.at_last in
-      let same : before.before ≡ f.last = cc in
-      let seam : b.head.start ≡ f.last.start + f.last.size = sym before.start ∙ ap (λ (g : Piece). g.start + g.size) same in
-      let message : b.head.message ≡ f.head.message = sym before.message ∙ ap (λ (g : Piece). g.message) same ∙ f.message in
+      let after = rows_follow queued log cut told got base Named tells front back f b follows same_number (started b.head (sym b.beginning ∙ goes_on)) in
+      let less = after.less in
+      let message : b.head.message ≡ f.head.message = sym after.message ∙ f.message in
+      let size = length-append front.payloads back.payloads in
       record {
         offset = f.offset;
         head = f.head;
@@ -57,18 +69,25 @@ module _ (queued : List Message) (log : List Slot) (cut : IsLogOfPieces queued l
         at_head = f.at_head;
         at_last = b.at_last;
         first = f.first;
-        ends = omega (arith, b.ends, next, length-append front.payloads back.payloads);
-        some = omega (arith, f.some, length-append front.payloads back.payloads);
-        covered = λ k from to. elim (leb_tells k f.last_offset) [
-          | inl e ↦ f.covered k from e.1
-          | inr e ↦ (let past : f.last_offset < k = e.1 in b.covered k (omega (arith, f.ends, next)) to)
+        later = omega (arith, f.later, b.later, less);
+        fsns = (let fsns = f.fsns in let fsns' = b.fsns in let fsn = after.fsn in omega (arith, fsns, fsns', fsn, size));
+        near = λ kind. chained_near front back f b after kind;
+        some = omega (arith, f.some, size);
+        covered = λ n g at of from to. elim (leb_tells n f.last_offset) [
+          | inl e ↦ f.covered n g at of from e.1
+          | inr e ↦
+              (let past : f.last_offset < n = e.1 in
+              elim (leb_tells b.offset n) [
+                | inl e' ↦ b.covered n g at (of ∙ sym f.place ∙ after.place) e'.1 to
+                | inr e' ↦ (let short : n < b.offset = e'.1 in absurd (after.apart n g past short at (of ∙ sym f.place ∙ after.place)))
+              ])
         ];
-        place = b.place ∙ sym before.place ∙ ap (λ (g : Piece). g.place) same ∙ f.place;
+        place = b.place ∙ sym after.place ∙ f.place;
         message = b.message ∙ message;
-        order = omega (arith, f.order, b.order);
+        order = (let start = after.start in omega (arith, f.order, b.order, start));
         payload = joined_two front.payloads back.payloads
             ∙ stretched f.head.message.payload b.head.message.payload f.head.start (f.last.start + f.last.size) b.head.start (b.last.start + b.last.size) (joined_bytes front.payloads) (joined_bytes back.payloads)
-            f.payload b.payload seam (ap (λ (m : Message). m.payload) message) (omega (arith, f.order)) (omega (arith, b.order));
+            f.payload b.payload (sym after.start) (ap (λ (m : Message). m.payload) message) (omega (arith, f.order)) (omega (arith, b.order));
         number = f.number;
         ppid = f.ppid;
         beginning = f.beginning;
@@ -144,15 +163,12 @@ module _ (queued : List Message) (log : List Slot) (cut : IsLogOfPieces queued l
       go None e offset = tt
       go (Some run) e offset = joined run (precedes part run) refl (row_at runs at run are e) offset
 
-  -- a piece that follows is of the same message
-  follows_on : (front : RunModel) (f : IsPieceRow log got base Named front) (n : ℕ) (piece : Piece) → at_place n log ≡ Some (Some piece) → n ≡ f.last_offset + 1 → 0 < piece.start → piece.place ≡ f.head.place
-  follows_on front f n piece at next inside =
-      let before = cut.rows n piece (omega arith) at inside in
-      let place_is : before.earlier ≡ f.last_offset = omega (arith, before.is) in
-      let found : at_place f.last_offset log ≡ Some (Some before.before) = subst (λ (k : ℕ). at_place k log ≡ Some (Some before.before)) place_is before.at in
-      let same' : Some (Some before.before) ≡ Some (Some f.last) = sym found ∙ f.at_last in
-      let same : before.before ≡ f.last = cc in
-      sym before.place ∙ ap (λ (g : Piece). g.place) same ∙ f.place
+  -- a part that follows is of the same message
+  follows_on : (front : RunModel) (part : PartModel) (f : IsPieceRow log got base Named front) (is : IsPart log base Named part) → HasEntry is.offset got → part.place ≡ front.first + length front.payloads → front.number ≡ part.number → part.is_beginning ≡ false
+      → is.piece.place ≡ f.head.place
+  unfolding single_row
+  follows_on front part f is has follows same_number goes_on =
+      sym (rows_follow queued log cut told got base Named tells front (single_run part) f (single_row part is has) follows same_number (started is.piece (sym is.beginning ∙ goes_on))).place ∙ f.place
 
   -- a row, whose message this is
   MergedRow : ℕ → RunModel → Type 0
@@ -165,13 +181,13 @@ module _ (queued : List Message) (log : List Slot) (cut : IsLogOfPieces queued l
   merged_row (Some front) part None is has f b =
       let single = single_row part is has in (
         chained_row front (single_run part) f.0 single (sym f.1) f.3 f.2,
-        sym (follows_on front f.0 is.offset is.piece is.at (let next = offsets_follow queued log cut told got base Named tells front (single_run part) f.0 single (sym f.1) f.3 in omega (arith, next, f.0.ends)) (started is.piece (sym is.beginning ∙ f.2))),
+        sym (follows_on front part f.0 is has (sym f.1) f.3 f.2),
       )
   merged_row None part (Some back) is has f b = (chained_row (single_run part) back (single_row part is has) b.0 b.1 (sym b.3) b.2, refl)
   merged_row (Some front) part (Some back) is has f b =
       let single = single_row part is has in (
         chained_row front (chained_run (single_run part) back) f.0 (chained_row (single_run part) back single b.0 b.1 (sym b.3) b.2) (sym f.1) f.3 f.2,
-        sym (follows_on front f.0 is.offset is.piece is.at (let next = offsets_follow queued log cut told got base Named tells front (single_run part) f.0 single (sym f.1) f.3 in omega (arith, next, f.0.ends)) (started is.piece (sym is.beginning ∙ f.2))),
+        sym (follows_on front part f.0 is has (sym f.1) f.3 f.2),
       )
 
   whole_row : (run : RunModel) (whole : WholeModel) (place : ℕ) → MergedRow place run → is_whole run ≡ true → whole ≡ whole_run run → IsQueued queued log got Named place whole
@@ -204,8 +220,8 @@ module _ (queued : List Message) (log : List Slot) (cut : IsLogOfPieces queued l
           starts = zero_at;
           same = row.place ∙ of;
           ends = sym row.end ∙ ends;
-          order = omega (arith, row.ends, row.some);
-          covered = row.covered;
+          order = row.later;
+          covered = λ n f at same from to. row.covered n f at (same ∙ sym of) from to;
         };
       }
 

@@ -1,13 +1,13 @@
 -- A piece that is new belongs to no message whose pieces were all handled.
-use Rattle.std.proofs.Common.{◌≡◌, ◌≢◌, ◌==◌, ℕ, zero, suc, Bool, true, false, ◌<◌, ◌+◌, ◌-◌, ◌≤◌, List, [], ◌∷◌, length, refl, sym, ◌∙◌, ap, arith, subst, inl, inr}
+use Rattle.std.proofs.Common.{◌≡◌, ◌==◌, ℕ, Bool, true, false, ◌<◌, ◌+◌, ◌-◌, ◌≤◌, List, [], ◌∷◌, length, refl, sym, ◌∙◌, ap, arith, inl, inr}
 use Rattle.std.specs.Prelude.{◌&&◌, not, Option, None, Some, if◌then◌else◌}
 use Rattle.std.proofs.lemmas.Bool.{eqb-true}
-use Rattle.std.proofs.lemmas.Bool.Decides.{eqb_tells, leb_tells}
+use Rattle.std.proofs.lemmas.Bool.Decides.{leb_tells}
 use Rattle.dcsctp_spec_lemmas.specs.spec.queues.Runs.{RunModel, PartModel, WholeModel, Assembly, part_dropped, part_kept, message_whole, AddsPart, AssemblesPart, entry_before, follows, following, run_before, run_behind, run_with_part}
 use Rattle.dcsctp_delivery_directions.specs.sending.Places.{HasEntry, at_place}
 use Rattle.dcsctp_delivery_directions.specs.sending.Log.{Message, Piece, Slot, IsLogOfPieces}
 use Rattle.dcsctp_delivery_directions.specs.receiving.Rows.{IsPart, IsPieceRow, AreRows, Spent, MakesQueued}
-use Rattle.dcsctp_delivery_directions.proofs.receiving.Chaining.{OneKind}
+use Rattle.dcsctp_delivery_directions.proofs.receiving.Chaining.{OneKind, lies_behind}
 use Rattle.dcsctp_delivery_directions.proofs.receiving.Joining.{both}
 use Rattle.dcsctp_delivery_directions.proofs.receiving.Rows.{outcome_rows}
 
@@ -23,9 +23,11 @@ row_got log got n base Named run row =
       at_head = row.at_head;
       at_last = row.at_last;
       first = row.first;
-      ends = row.ends;
+      later = row.later;
+      fsns = row.fsns;
+      near = row.near;
       some = row.some;
-      covered = λ k from to. inr (row.covered k from to);
+      covered = λ k f at of from to. inr (row.covered k f at of from to);
       place = row.place;
       message = row.message;
       order = row.order;
@@ -54,7 +56,7 @@ spent_got log got n place s =
       same = s.same;
       ends = s.ends;
       order = s.order;
-      covered = λ k from to. inr (s.covered k from to);
+      covered = λ k f at of from to. inr (s.covered k f at of from to);
     }
 
 -- each piece of a message lies between its first and its last
@@ -85,49 +87,23 @@ module _ (queued : List Message) (log : List Slot) (cut : IsLogOfPieces queued l
             absurd (omega (arith, up, is, spent.is)))
       ]
 
+  -- nor is it behind the last, where the message ends
   pub between : (n : ℕ) (f : Piece) → at_place n log ≡ Some (Some f) → f.place ≡ place → n ≤ spent.last_offset
   between n f at is =
-      elim (eqb_tells f.start 0) [
-        | inl e ↦ first n f at is e.1
-        | inr e ↦ (let ne : f.start ≢ 0 = e.1 in later n f at is (omega arith))
+      elim (leb_tells n spent.last_offset) [
+        | inl e ↦ e.1
+        | inr e ↦
+            (let less : spent.last_offset < n = e.1 in
+            let behind = (lies_behind queued log cut spent.last_offset n spent.last f less spent.at_last at (is ∙ sym spent.same)).start in
+            let end_at : spent.last.start + spent.last.size ≡ length spent.last.message.payload = eqb-true _ _ spent.ends in
+            let sizes : length f.message.payload ≡ length spent.last.message.payload = ap (λ (m : Message). length m.payload) (same_message n f at is) in
+            let piece = cut.pieces n f at in
+            absurd (omega (arith, behind, end_at, sizes, piece.some, piece.within)))
       ]
-    where
-      first : (n : ℕ) (f : Piece) → at_place n log ≡ Some (Some f) → f.place ≡ place → f.start ≡ 0 → n ≤ spent.last_offset
-      first n f at is starts =
-          elim (leb_tells n spent.offset) [
-            | inl e ↦ omega (arith, e.1, spent.order)
-            | inr e ↦
-                (let less : spent.offset < n = e.1 in
-                let up : spent.head.place < f.place = cut.ascends spent.offset n spent.head f less spent.at_head at starts (sym (same_stream n f at is)) in
-                absurd (omega (arith, up, is, spent.is)))
-          ]
-
-      later : (n : ℕ) (f : Piece) → at_place n log ≡ Some (Some f) → f.place ≡ place → 0 < f.start → n ≤ spent.last_offset
-      later zero f at is inside = omega arith
-      later (suc n) f at is inside =
-          let before = cut.rows (suc n) f (omega arith) at inside in
-          let here : before.earlier ≡ n = omega (arith, before.is) in
-          let at' : at_place n log ≡ Some (Some before.before) = subst (λ (k : ℕ). at_place k log ≡ Some (Some before.before)) here before.at in
-          let is' : before.before.place ≡ place = before.place ∙ is in
-          let up : n ≤ spent.last_offset = elim (eqb_tells before.before.start 0) [
-            | inl e ↦ first n before.before at' is' e.1
-            | inr e ↦ (let ne : before.before.start ≢ 0 = e.1 in later n before.before at' is' (omega arith))
-          ] in
-          elim (eqb_tells n spent.last_offset) [
-            | inr e ↦ (let ne : n ≢ spent.last_offset = e.1 in omega arith)
-            | inl e ↦
-                (let same : Some (Some before.before) ≡ Some (Some spent.last) = sym at' ∙ ap (λ (k : ℕ). at_place k log) e.1 ∙ spent.at_last in
-                let last : before.before ≡ spent.last = cc in
-                let end_at : spent.last.start + spent.last.size ≡ length spent.last.message.payload = eqb-true _ _ spent.ends in
-                let at_end : before.before.start + before.before.size ≡ spent.last.start + spent.last.size = ap (λ (g : Piece). g.start + g.size) last in
-                let sizes : length f.message.payload ≡ length spent.last.message.payload = ap (λ (m : Message). length m.payload) (same_message (suc n) f at is) in
-                let piece = cut.pieces (suc n) f at in
-                absurd (omega (arith, end_at, at_end, sizes, piece.some, piece.within, before.start)))
-          ]
 
   -- so it was handled
   pub was_handled : (n : ℕ) (f : Piece) → at_place n log ≡ Some (Some f) → f.place ≡ place → HasEntry n got
-  was_handled n f at is = spent.covered n (not_before n f at is) (between n f at is)
+  was_handled n f at is = spent.covered n f at is (not_before n f at is) (between n f at is)
 
 pub stay_rows : (queued : List Message) (log : List Slot) → IsLogOfPieces queued log → OneKind log
     → (got : List ℕ) (base : ℕ → ℕ) (Named : Piece → ℕ → Type 0)

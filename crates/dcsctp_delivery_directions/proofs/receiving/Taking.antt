@@ -139,7 +139,7 @@ reads_on queued history first read tracker reassembly message messages is r = go
     go (untouched none last empty) =
         let t = taken_first queued history [] 0 read reassembly.incoming message messages is (empty 0) in
         let spent = t.holds.spent t.place (has_left t.place (read ++ t.place ∷ []) t.holds.places (has_right t.place read (t.place ∷ []) (inl refl))) in
-        absurd (spent.covered spent.offset (omega arith) spent.order)
+        absurd (spent.covered spent.offset spent.head spent.at_head spent.is (omega arith) spent.order)
 
 -- ---- a new association
 

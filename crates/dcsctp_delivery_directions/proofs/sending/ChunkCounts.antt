@@ -3,7 +3,6 @@ use Rattle.std.proofs.Common.{◌≡◌, ℕ, Bool, true, false, ◌≤◌, ◌+
 use Rattle.std.specs.Prelude.{Option, None, Some}
 use Rattle.std.proofs.lemmas.List.{append-nil, length-append}
 use Rattle.dcsctp_spec.specs.wire.Content.{ChunkContent, data_chunk, init_chunk, init_ack_chunk, sack_chunk, heartbeat_chunk, heartbeat_ack_chunk, abort_chunk, shutdown_chunk, shutdown_ack_chunk, error_chunk, cookie_echo_chunk, cookie_ack_chunk, shutdown_complete_chunk, i_data_chunk, re_config_chunk, forward_tsn_chunk, i_forward_tsn_chunk, unknown_chunk}
-use Rattle.dcsctp_spec.specs.types.declared.sending.UnderWay.{UnderWay}
 use Rattle.dcsctp_spec.specs.endpoint.Endpoint.{Endpoint}
 use Rattle.dcsctp_spec.specs.endpoint.Event.{Event, sent, packets_of_events}
 use Rattle.dcsctp_spec.specs.Packet.{Plain, unworked, unknown, heartbeat, heartbeat_ack, plain, Content, init, init_ack, cookie_echo, cookie_ack, re_config, abort, shutdown, shutdown_ack, shutdown_complete, Emission}
@@ -12,10 +11,10 @@ use Rattle.dcsctp_spec.specs.types.declared.progress.Change.TheVariants.{SendAga
 use Rattle.dcsctp_spec.specs.queues.Abandoning.{GivesUpFirst}
 use Rattle.dcsctp_spec.specs.queues.AtOnce.{empty_stage, SendsAtOnce}
 use Rattle.dcsctp_spec.specs.queues.Chunks.{AreChunksOfTsns, chunk_said}
-use Rattle.dcsctp_spec.specs.queues.Filling.{Stage, ClosesMessage, GivesUpItem, SendsMarked, SendsNew, FindsNone, StepAgain, StepNew, StageSteps, none, more, resent_packet_counted, FillsPacket}
+use Rattle.dcsctp_spec.specs.queues.Filling.{Stage, payload_room, ClosesMessage, GivesUpItem, SendsMarked, SendsNew, FindsNone, StepAgain, StepNew, StageSteps, none, more, resent_packet_counted, FillsPacket}
 use Rattle.dcsctp_spec.specs.queues.ItemMessages.{EndsDropped}
 use Rattle.dcsctp_spec.specs.queues.Items.{Item}
-use Rattle.dcsctp_spec.specs.queues.Outstanding.{OutstandingState, next_tsn, tsn_at}
+use Rattle.dcsctp_spec.specs.queues.Outstanding.{OutstandingState, header, next_tsn, tsn_at}
 use Rattle.dcsctp_spec.specs.queues.Retransmission.{RetransmissionState}
 use Rattle.dcsctp_spec.specs.queues.SendQueue.{SendQueueState}
 use Rattle.dcsctp_spec.specs.queues.Sending.{DiscardsNamed}
@@ -26,17 +25,11 @@ use Rattle.dcsctp_delivery_directions.specs.sending.ChunkCounts.{counts, chunks_
 use Rattle.dcsctp_delivery_directions.specs.sending.Flushes.{NoPlain, NoContent, NoData}
 use Rattle.dcsctp_delivery_directions.proofs.sending.Filling.{counted_outstanding}
 use Rattle.dcsctp_delivery_directions.proofs.sending.Packets.{out_below}
-use Rattle.dcsctp_delivery_directions.proofs.sending.Discarding.{drops_keep_under_way}
+use Rattle.dcsctp_delivery_directions.proofs.sending.Handing.{requesting_alike}
+use Rattle.dcsctp_delivery_directions.proofs.sending.UnderWayCounts.{alike_going, drops_going, discards_going, takes_going}
 use Rattle.dcsctp_delivery_directions.proofs.sending.Stages.{changed_length}
 
 -- ---- one step
-
-mass : Stage → ℕ
-mass stage = tsns_of stage.waiting stage.queue.outstanding.items
-
-pub one_at_most : (u : Option UnderWay) → going u ≤ 1
-one_at_most None = omega arith
-one_at_most (Some under_way) = omega arith
 
 -- no more TSNs are taken, and none is added to the packet
 record Fewer (old new : Stage) : Type 0 where
@@ -64,12 +57,11 @@ dropped_few : (now : ℕ) (begins : Bool) (last : Item) (old new : OutstandingSt
     → EndsDropped now begins last old new b → tsns_of left new.items ≤ tsns_of waiting old.items
 dropped_few now begins last old new waiting left stream id told telling true discards adds =
     let size : length new.items ≡ length old.items + 1 = ap (λ (o : OutstandingState). length o.items) adds.grows ∙ length-append old.items (adds.item ∷ []) in
-    let none_left : going left.under_way ≡ 0 = ap (λ (q : SendQueueState). going q.under_way) discards.left in
-    let one : going waiting.under_way ≡ 1 = ap going discards.named.goes_on in
-    omega (arith, size, none_left, one)
+    let less = discards_going waiting left stream id told telling discards in
+    omega (arith, size, less)
 dropped_few now begins last old new waiting left stream id told telling false discards same =
     let size : length new.items ≡ length old.items = ap (λ (o : OutstandingState). length o.items) same in
-    let way : going left.under_way ≡ going waiting.under_way = ap (λ (q : SendQueueState). going q.under_way) discards.1 in
+    let way : going left.streams ≡ going waiting.streams = ap (λ (q : SendQueueState). going q.streams) discards.1 in
     omega (arith, size, way)
 
 closes_few : (now : ℕ) (last : Item) (old new : Stage) (b : Bool) → ClosesMessage now last old new b → Fewer old new
@@ -95,13 +87,13 @@ new_few now old new sends =
     subst (λ (s : Stage). Few old s) (sym sends.is)
     (let size = length-append old.queue.outstanding.items (sends.item ∷ []) in
     let long = length-append old.tsns (next_tsn old.queue.outstanding ∷ []) in
-    let way = one_at_most new.waiting.under_way in
+    let way = takes_going now (payload_room (header old.queue.outstanding) old.room) old.waiting new.waiting old.told new.told sends.item.fragment sends.takes in
     omega (arith, size, long, way))
 
 finds_few : (now : ℕ) (old new : Stage) → FindsNone now old new → Few old new
 finds_few now old new finds =
     subst (λ (s : Stage). Few old s) (sym finds.is)
-    (let way : going new.waiting.under_way ≡ going old.waiting.under_way = ap going (drops_keep_under_way now old.waiting finds.takes.drops.events new.waiting finds.takes.drops.drops) in
+    (let way = drops_going now old.waiting finds.takes.drops.events new.waiting finds.takes.drops.drops in
     omega (arith, way))
 
 anew_few : (now : ℕ) (old new : Stage) → StepNew now old new → Few old new
@@ -161,9 +153,8 @@ filled_few now true old new fills = fills_few now old new fills
 filled_few now false old new (inl is) = subst (λ (s : Stage). Few old s) (sym is) (omega arith)
 filled_few now false old new (inr fills) = fills_few now old new fills
 
-requesting_way : (count : ℕ) (begun : Option BegunReset) (queue : SendQueueState) → (queue_requesting count begun queue).under_way ≡ queue.under_way
-requesting_way count None queue = refl
-requesting_way count (Some begun) queue = refl
+requesting_way : (count : ℕ) (begun : Option BegunReset) (queue : SendQueueState) → going (queue_requesting count begun queue).streams ≡ going queue.streams
+requesting_way count begun queue = alike_going queue.streams (queue_requesting count begun queue).streams (requesting_alike count begun queue)
 
 begun_items : (begun : Option BegunReset) (state : RetransmissionState) → (retransmission_begun begun state).outstanding.items ≡ state.outstanding.items
 begun_items None state = refl
@@ -176,7 +167,7 @@ gives_few : (ask : Ask) (e : Endpoint) (draft : Emission) (transfer : Transfer) 
 gives_few ask e draft transfer answer known gives =
     let gave = (given_up_few e.moment _ (may_forward ask e transfer.retransmission) transfer (stage_of e.queues.queue transfer.retransmission [] 0) gives.gave_up gives.next gives.forwards gives.gives_up).less in
     let room : ℕ = streams_within (room_of_draft e (filled_draft draft (plain_contents answer.acknowledgements))) in
-    let way : going (queue_requesting room answer.begun gives.gave_up.waiting).under_way ≡ going gives.gave_up.waiting.under_way = ap going (requesting_way room answer.begun gives.gave_up.waiting) in
+    let way = requesting_way room answer.begun gives.gave_up.waiting in
     let size : length (retransmission_begun answer.begun gives.gave_up.queue).outstanding.items ≡ length gives.gave_up.queue.outstanding.items =
     ap (λ (l : List Item). length l) (begun_items answer.begun gives.gave_up.queue) in
     let full = filled_few e.moment (may_give (queue_requesting room answer.begun gives.gave_up.waiting) (retransmission_begun answer.begun gives.gave_up.queue)) _ gives.sent gives.fills in

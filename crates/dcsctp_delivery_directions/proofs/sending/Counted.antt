@@ -1,38 +1,58 @@
 -- How the MIDs are counted as pieces are sent.
-use Rattle.std.proofs.Common.{◌≡◌, ℕ, Bool, ◌<◌, ◌+◌, ◌≤◌, ◌%◌, ◌^◌, List, [], ◌∷◌, length, refl, sym, ◌∙◌, ap, arith, subst, inl, inr}
-use Rattle.std.specs.Prelude.{Option, None, Some}
+use Rattle.std.proofs.Common.{◌≡◌, ◌≢◌, ℕ, Bool, ◌<◌, ◌+◌, ◌≤◌, ◌%◌, ◌^◌, List, ◌∷◌, refl, sym, ◌∙◌, ap, arith, subst, inl, inr}
+use Rattle.std.specs.Prelude.{◌⊎◌, Option, None, Some}
 use Rattle.dcsctp_spec.specs.types.declared.sending.UnderWay.{UnderWay}
 use Rattle.dcsctp_spec.specs.types.queues.SendStreams.{Waiting, Stream, front_of}
 use Rattle.dcsctp_delivery_directions.specs.sending.Places.{at_place}
-use Rattle.dcsctp_delivery_directions.specs.sending.Log.{Piece, Slot, newest, HasBefore, History, with_slot}
+use Rattle.dcsctp_delivery_directions.specs.sending.Log.{Message, Piece, newest_on, History, with_slot}
 use Rattle.dcsctp_delivery_directions.specs.sending.Numbers.{stream_named, next_mid, IsLastBegun, LastIs, CountsMessages}
-use Rattle.dcsctp_delivery_directions.proofs.sending.Numbers.{NumbersStay, mid_stays}
-use Rattle.dcsctp_delivery_directions.proofs.sending.Places.{at_cases}
+use Rattle.dcsctp_delivery_directions.proofs.sending.Places.{decide, at_cases}
+use Rattle.dcsctp_delivery_directions.proofs.sending.Newest.{newest_here, newest_else, newest_found, newest_none}
 use Rattle.dcsctp_delivery_directions.proofs.sending.Counting.{Other, set_both, set_here, set_elsewhere, is_or_other}
 
 -- The message under way has this number, and is kept by its stream.
 abbrev pub GoesOn : List Stream → ℕ → Bool → ℕ → UnderWay → Type 0
-GoesOn streams id kind mid v = (v.stream_id.0 ≡ id) × (v.mid % 2 ^ 32 ≡ mid % 2 ^ 32) × ((w : Waiting) × (front_of (stream_named id streams).messages ≡ Some w) × (w.is_unordered ≡ kind))
+GoesOn streams id kind mid v = (v.mid % 2 ^ 32 ≡ mid % 2 ^ 32) × ((w : Waiting) × (front_of (stream_named id streams).messages ≡ Some w) × (w.is_unordered ≡ kind))
 
 last_of : (history : History) (streams : List Stream) (counts : ℕ → Bool → ℕ) (id : ℕ) (kind : Bool) (mid : ℕ) (v : UnderWay) → GoesOn streams id kind mid v → history.floors id kind ≤ mid → mid + 1 ≡ history.floors id kind + counts id kind
-    → ((f : Piece) → newest history.log ≡ Some (Some f) → f.mid ≡ mid) → IsLastBegun history streams counts v
-last_of history streams counts id kind mid v (same, is, (w, front, unordered)) low last came =
+    → ((f : Piece) → newest_on id history.log ≡ Some f → f.mid ≡ mid) → IsLastBegun history streams counts id v
+last_of history streams counts id kind mid v (is, (w, front, unordered)) low last came =
     record {
       waiting = w;
-      front = subst (λ (k : ℕ). front_of (stream_named k streams).messages ≡ Some w) (sym same) front;
+      front = front;
       mid = mid;
       is = is;
-      from = subst (λ (k : ℕ). history.floors k w.is_unordered ≤ mid) (sym same) (subst (λ (b : Bool). history.floors id b ≤ mid) (sym unordered) low);
-      last = subst (λ (k : ℕ). mid + 1 ≡ history.floors k w.is_unordered + counts k w.is_unordered) (sym same) (subst (λ (b : Bool). mid + 1 ≡ history.floors id b + counts id b) (sym unordered) last);
+      from = subst (λ (b : Bool). history.floors id b ≤ mid) (sym unordered) low;
+      last = subst (λ (b : Bool). mid + 1 ≡ history.floors id b + counts id b) (sym unordered) last;
       came = came;
     }
 
+-- A piece of one stream changes nothing on another.
+last_else : (history : History) (old new : List Stream) (counts more : ℕ → Bool → ℕ) (piece : Piece) (other : ℕ) → (piece.message.stream ≡ other → ⊥) → stream_named other new ≡ stream_named other old
+    → ((b : Bool) → more other b ≡ counts other b) → LastIs history old counts other (stream_named other old).under_way → LastIs (with_slot (Some piece) history) new more other (stream_named other new).under_way
+last_else history old new counts more piece other apart same counted was =
+    subst (λ (u : Option UnderWay). LastIs (with_slot (Some piece) history) new more other u) (ap (λ (s : Stream). s.under_way) (sym same)) (go (stream_named other old).under_way was)
+  where
+    go : (u : Option UnderWay) → LastIs history old counts other u → LastIs (with_slot (Some piece) history) new more other u
+    go None last = tt
+    go (Some v) last =
+        record {
+          waiting = last.waiting;
+          front = ap (λ (s : Stream). front_of s.messages) same ∙ last.front;
+          mid = last.mid;
+          is = last.is;
+          from = last.from;
+          last = last.last ∙ ap (λ (k : ℕ). history.floors other last.waiting.is_unordered + k) (sym (counted last.waiting.is_unordered));
+          came = λ f e. last.came f (sym (newest_else other piece history.log apart) ∙ e);
+        }
+
 -- the first one of a message
-module _ (history : History) (old new : List Stream) (u : Option UnderWay) (id : ℕ) (kind : Bool) (piece : Piece) (c : CountsMessages history old None)
+module _ (history : History) (old new : List Stream) (id : ℕ) (kind : Bool) (piece : Piece) (c : CountsMessages history old)
     (stream_is : piece.message.stream ≡ id) (kind_is : piece.message.is_unordered ≡ kind) (mid_is : piece.mid ≡ history.floors id kind + c.counts id kind)
     (here : next_mid kind (stream_named id new) % 2 ^ 32 ≡ (next_mid kind (stream_named id old) + 1) % 2 ^ 32)
     (elsewhere : (other : ℕ) (b : Bool) → Other id kind other b → next_mid b (stream_named other new) ≡ next_mid b (stream_named other old))
-    (goes_on : (v : UnderWay) → u ≡ Some v → GoesOn new id kind piece.mid v) where
+    (others : (other : ℕ) → other ≢ id → stream_named other new ≡ stream_named other old)
+    (goes_on : (v : UnderWay) → (stream_named id new).under_way ≡ Some v → GoesOn new id kind piece.mid v) where
   more : ℕ → Bool → ℕ
   more = set_both id kind (c.counts id kind + 1) c.counts
 
@@ -73,7 +93,7 @@ module _ (history : History) (old new : List Stream) (u : Option UnderWay) (id :
       ap (λ (k : ℕ). history.floors k f.message.is_unordered + c.counts k f.message.is_unordered) (same ∙ stream_is) ∙ ap (λ (b : Bool). history.floors id b + c.counts id b) (same' ∙ kind_is) in
       omega (arith, below, all, mid_is)
 
-  pub counts_begun : CountsMessages (with_slot (Some piece) history) new u
+  pub counts_begun : CountsMessages (with_slot (Some piece) history) new
   counts_begun =
       record {
         counts = more;
@@ -87,7 +107,10 @@ module _ (history : History) (old new : List Stream) (u : Option UnderWay) (id :
           | inr old' ↦ (let below = c.below n f old' in omega (arith, below, up f.message.stream f.message.is_unordered))
         ];
         apart = apart;
-        going = going u refl;
+        going = λ other. elim (decide other id) [
+          | inl is ↦ subst (λ (k : ℕ). LastIs (with_slot (Some piece) history) new more k (stream_named k new).under_way) (sym is) (going (stream_named id new).under_way refl)
+          | inr ne ↦ last_else history old new c.counts more piece other (λ on. ne (sym on ∙ stream_is)) (others other ne) (λ b. more_else other b (λ same. absurd (ne same))) (c.going other)
+        ];
       }
     where
       apart : (m n : ℕ) (f g : Piece) → at_place m (Some piece ∷ history.log) ≡ Some (Some f) → at_place n (Some piece ∷ history.log) ≡ Some (Some g) → f.message.stream ≡ g.message.stream
@@ -114,48 +137,54 @@ module _ (history : History) (old new : List Stream) (u : Option UnderWay) (id :
                 ]
           ]
 
-      going : (v : Option UnderWay) → u ≡ v → LastIs (with_slot (Some piece) history) new more v
+      going : (v : Option UnderWay) → (stream_named id new).under_way ≡ v → LastIs (with_slot (Some piece) history) new more id v
       going None is = tt
       going (Some v) is =
-          last_of (with_slot (Some piece) history) new more id kind piece.mid v (goes_on v is) (omega (arith, mid_is)) (omega (arith, mid_is, more_here)) (λ f e. (let one : piece ≡ f = cc in ap (λ (x : Piece). x.mid) (sym one)))
+          last_of (with_slot (Some piece) history) new more id kind piece.mid v (goes_on v is) (omega (arith, mid_is)) (omega (arith, mid_is, more_here))
+          (λ f e. (let both : Some piece ≡ Some f = sym (newest_here id piece history.log stream_is) ∙ e in let one : piece ≡ f = cc in ap (λ (x : Piece). x.mid) (sym one)))
 
 -- one more of the message under way
-module _ (history : History) (old new : List Stream) (now : UnderWay) (u : Option UnderWay) (piece : Piece) (c : CountsMessages history old (Some now))
-    (stream_is : piece.message.stream ≡ now.stream_id.0) (kind_is : piece.message.is_unordered ≡ c.going.waiting.is_unordered) (mid_is : piece.mid ≡ c.going.mid)
-    (row : 0 < length history.log → HasBefore history.log (length history.log) piece)
-    (stays : NumbersStay None old new)
-    (goes_on : (v : UnderWay) → u ≡ Some v → GoesOn new now.stream_id.0 c.going.waiting.is_unordered piece.mid v) where
-  its_floors : history.floors piece.message.stream piece.message.is_unordered ≡ history.floors now.stream_id.0 c.going.waiting.is_unordered
+module _ (history : History) (old new : List Stream) (id : ℕ) (now : UnderWay) (piece : Piece) (c : CountsMessages history old) (latest : IsLastBegun history old c.counts id now)
+    (stream_is : piece.message.stream ≡ id) (kind_is : piece.message.is_unordered ≡ latest.waiting.is_unordered) (mid_is : piece.mid ≡ latest.mid)
+    (came : (newest_on id history.log ≡ None) ⊎ ((f : Piece) × (newest_on id history.log ≡ Some f) × (f.place ≡ piece.place) × (f.message ≡ piece.message)))
+    (mids : (other : ℕ) (b : Bool) → next_mid b (stream_named other new) ≡ next_mid b (stream_named other old))
+    (others : (other : ℕ) → other ≢ id → stream_named other new ≡ stream_named other old)
+    (goes_on : (v : UnderWay) → (stream_named id new).under_way ≡ Some v → GoesOn new id latest.waiting.is_unordered piece.mid v) where
+  its_floors : history.floors piece.message.stream piece.message.is_unordered ≡ history.floors id latest.waiting.is_unordered
   its_floors = rw stream_is (rw kind_is refl)
 
-  its_counts : c.counts piece.message.stream piece.message.is_unordered ≡ c.counts now.stream_id.0 c.going.waiting.is_unordered
+  its_counts : c.counts piece.message.stream piece.message.is_unordered ≡ c.counts id latest.waiting.is_unordered
   its_counts = rw stream_is (rw kind_is refl)
 
   -- an earlier piece of its number is of the same message
   of_same : (n : ℕ) (g : Piece) → at_place n history.log ≡ Some (Some g) → g.message.stream ≡ piece.message.stream → g.message.is_unordered ≡ piece.message.is_unordered → g.mid ≡ piece.mid → g.place ≡ piece.place
-  of_same n g at same same' mids =
-      let b = row (some history.log at) in
-      c.apart n b.earlier g b.before at b.at (same ∙ ap (λ m. m.stream) (sym b.message)) (same' ∙ ap (λ m. m.is_unordered) (sym b.message)) (mids ∙ sym b.mid) ∙ b.place
-    where
-      some : (l : List Slot) → at_place n l ≡ Some (Some g) → 0 < length l
-      some [] e = absurd (cc)
-      some (s ∷ l) e = omega arith
+  of_same n g at same same' numbers =
+      elim came [
+        | inl none ↦ absurd (newest_none id history.log none n g at (same ∙ stream_is))
+        | inr is ↦
+            (let (f, newest, place, message) = is in
+            let found = newest_found id history.log f newest in
+            c.apart n found.number g f at found.at (same ∙ ap (λ (m : Message). m.stream) (sym message)) (same' ∙ ap (λ (m : Message). m.is_unordered) (sym message)) (numbers ∙ mid_is ∙ sym (latest.came f newest)) ∙ place)
+      ]
 
-  pub counts_continued : CountsMessages (with_slot (Some piece) history) new u
+  pub counts_continued : CountsMessages (with_slot (Some piece) history) new
   counts_continued =
       record {
         counts = c.counts;
         few = λ other b. (let few = c.few other b in omega (arith, few));
-        next = λ other b. ap (λ (k : ℕ). k % 2 ^ 32) (mid_stays b (stream_named other old) (stream_named other new) (stays.mids other)) ∙ c.next other b;
+        next = λ other b. ap (λ (k : ℕ). k % 2 ^ 32) (mids other b) ∙ c.next other b;
         below = λ n f at. elim (at_cases n (Some piece) (Some f) history.log at) [
           | inl e ↦
               (let same : piece ≡ f = cc in
-              let last = c.going.last in
+              let last = latest.last in
               subst (λ (g : Piece). g.mid < history.floors g.message.stream g.message.is_unordered + c.counts g.message.stream g.message.is_unordered) same (omega (arith, its_floors, its_counts, mid_is, last)))
           | inr old' ↦ c.below n f old'
         ];
         apart = apart;
-        going = going u refl;
+        going = λ other. elim (decide other id) [
+          | inl is ↦ subst (λ (k : ℕ). LastIs (with_slot (Some piece) history) new c.counts k (stream_named k new).under_way) (sym is) (going (stream_named id new).under_way refl)
+          | inr ne ↦ last_else history old new c.counts c.counts piece other (λ on. ne (sym on ∙ stream_is)) (others other ne) (λ b. refl) (c.going other)
+        ];
       }
     where
       apart : (m n : ℕ) (f g : Piece) → at_place m (Some piece ∷ history.log) ≡ Some (Some f) → at_place n (Some piece ∷ history.log) ≡ Some (Some g) → f.message.stream ≡ g.message.stream
@@ -180,10 +209,10 @@ module _ (history : History) (old new : List Stream) (now : UnderWay) (u : Optio
                 ]
           ]
 
-      going : (v : Option UnderWay) → u ≡ v → LastIs (with_slot (Some piece) history) new c.counts v
+      going : (v : Option UnderWay) → (stream_named id new).under_way ≡ v → LastIs (with_slot (Some piece) history) new c.counts id v
       going None is = tt
       going (Some v) is =
-          let low = c.going.from in
-          let last = c.going.last in
-          last_of (with_slot (Some piece) history) new c.counts now.stream_id.0 c.going.waiting.is_unordered piece.mid v (goes_on v is) (omega (arith, mid_is, low)) (omega (arith, mid_is, last))
-          (λ f e. (let one : piece ≡ f = cc in ap (λ (x : Piece). x.mid) (sym one)))
+          let low = latest.from in
+          let last = latest.last in
+          last_of (with_slot (Some piece) history) new c.counts id latest.waiting.is_unordered piece.mid v (goes_on v is) (omega (arith, mid_is, low)) (omega (arith, mid_is, last))
+          (λ f e. (let both : Some piece ≡ Some f = sym (newest_here id piece history.log stream_is) ∙ e in let one : piece ≡ f = cc in ap (λ (x : Piece). x.mid) (sym one)))

@@ -1,12 +1,13 @@
 -- How the MIDs of an association are counted.
-use Rattle.std.proofs.Common.{◌≡◌, ◌==◌, ℕ, Bool, true, false, ◌<◌, ◌+◌, ◌%◌, ◌^◌, List, length, refl, sym, ◌∙◌, ap, arith, inl, inr}
-use Rattle.std.specs.Prelude.{◌⊎◌, Option, None, Some, if◌then◌else◌}
+use Rattle.std.proofs.Common.{◌≡◌, ◌==◌, ℕ, Bool, true, false, ◌<◌, ◌≤◌, ◌+◌, ◌%◌, ◌^◌, List, [], ◌∷◌, length, refl, sym, ◌∙◌, ap, arith, subst, inl, inr}
+use Rattle.std.specs.Prelude.{◌⊎◌, Option, None, Some, is_some, if◌then◌else◌}
 use Rattle.std.proofs.lemmas.Bool.Decides.{eqb_tells}
+use Rattle.dcsctp_spec.specs.types.declared.ids.StreamId.{StreamId}
 use Rattle.dcsctp_spec.specs.types.declared.sending.UnderWay.{UnderWay}
 use Rattle.dcsctp_spec.specs.types.queues.SendStreams.{Waiting, Stream, front_of}
 use Rattle.dcsctp_spec.specs.queues.SendQueue.{SendQueueState}
 use Rattle.dcsctp_delivery_directions.specs.sending.Log.{History, new_history}
-use Rattle.dcsctp_delivery_directions.specs.sending.Numbers.{stream_named, next_mid, LastIs, CountsMessages, CountsByKind, AreOfKind, NumbersMessages, IsUnambiguous, plain, interleaved}
+use Rattle.dcsctp_delivery_directions.specs.sending.Numbers.{stream_named, next_mid, IsLastBegun, LastIs, CountsMessages, CountsTurns, CountsByKind, AreOfKind, NumbersMessages, IsUnambiguous, plain, interleaved}
 
 -- ---- tables
 
@@ -53,114 +54,171 @@ is_or_other id kind other b = elim (eqb_tells other id) [ inl e ↦ go kind b e.
 -- ---- an association begins
 
 -- The messages of these streams are counted, from some floors.
-pub record Begins (is_interleaved : Bool) (streams : List Stream) (under_way : Option UnderWay) : Type 0 where
+pub record Begins (is_interleaved : Bool) (streams : List Stream) (held : Option StreamId) : Type 0 where
   pub floors : ℕ → Bool → ℕ
-  pub counts : CountsByKind is_interleaved (new_history floors) streams under_way
+  pub counts : CountsByKind is_interleaved (new_history floors) streams held
 
-first_floors : List Stream → ℕ → Bool → ℕ
-first_floors streams id b = next_mid b (stream_named id streams) % 2 ^ 32
+-- The message under way on the stream has the last number of its kind.
+pub record HasLastNumber (streams : List Stream) (id : ℕ) (under_way : UnderWay) : Type 0 where
+  pub waiting : Waiting
+  pub front : front_of (stream_named id streams).messages ≡ Some waiting
+  pub next : next_mid waiting.is_unordered (stream_named id streams) % 2 ^ 32 ≡ (under_way.mid + 1) % 2 ^ 32
 
--- no message is under way
-pub counts_idle : (streams : List Stream) → Begins true streams None
-unfolding first_floors
-counts_idle streams =
-    record {
-      floors = first_floors streams;
-      counts = record {
-        counts = λ id b. 0;
-        few = λ id b. omega arith;
-        next = λ id b. omega arith;
-        below = λ n f at. absurd (cc);
-        apart = λ m n f g at at'. absurd (cc);
-        going = tt;
-      };
-    }
+is_same : Bool → Bool → Bool
+is_same true other = other
+is_same false true = false
+is_same false false = true
 
--- the rest of a message is, which has the last number
-pub counts_rest : (streams : List Stream) (u : UnderWay) (waiting : Waiting) (mid : ℕ) → front_of (stream_named u.stream_id.0 streams).messages ≡ Some waiting → u.mid % 2 ^ 32 ≡ mid % 2 ^ 32
-    → next_mid waiting.is_unordered (stream_named u.stream_id.0 streams) % 2 ^ 32 ≡ (mid + 1) % 2 ^ 32 → Begins true streams (Some u)
-unfolding first_floors
-counts_rest streams u waiting mid front is next =
+-- the floor of a stream's messages of one kind: the number of the message under way, if it is of this kind
+floor_of : Option UnderWay → List Waiting → Bool → ℕ → ℕ
+floor_of None messages kind next = next
+floor_of (Some u) [] kind next = next
+floor_of (Some u) (w ∷ messages) kind next = if is_same w.is_unordered kind then u.mid % 2 ^ 32 else next
+
+-- how many have a number from there on
+count_of : Option UnderWay → List Waiting → Bool → ℕ
+count_of None messages kind = 0
+count_of (Some u) [] kind = 0
+count_of (Some u) (w ∷ messages) kind = if is_same w.is_unordered kind then 1 else 0
+
+count_few : (u : Option UnderWay) (messages : List Waiting) (kind : Bool) → count_of u messages kind ≤ 1
+unfolding count_of
+count_few None messages kind = omega arith
+count_few (Some u) [] kind = omega arith
+count_few (Some u) (w ∷ messages) kind = go (is_same w.is_unordered kind)
+  where
+    go : (b : Bool) → (if b then 1 else 0) ≤ 1
+    go true = omega arith
+    go false = omega arith
+
+-- a message that waits is the oldest
+same_kind : (kind : Bool) → is_same kind kind ≡ true
+unfolding is_same
+same_kind true = refl
+same_kind false = refl
+
+floor_here : (u : UnderWay) (messages : List Waiting) (w : Waiting) (next : ℕ) → front_of messages ≡ Some w → floor_of (Some u) messages w.is_unordered next ≡ u.mid % 2 ^ 32
+unfolding floor_of
+floor_here u [] w next front = absurd (cc)
+floor_here u (v ∷ messages) w next front =
+    let same : v ≡ w = cc in
+    subst (λ (x : Waiting). (if is_same v.is_unordered x.is_unordered then u.mid % 2 ^ 32 else next) ≡ u.mid % 2 ^ 32) same (rw (same_kind v.is_unordered) refl)
+
+count_here : (u : UnderWay) (messages : List Waiting) (w : Waiting) → front_of messages ≡ Some w → count_of (Some u) messages w.is_unordered ≡ 1
+unfolding count_of
+count_here u [] w front = absurd (cc)
+count_here u (v ∷ messages) w front =
+    let same : v ≡ w = cc in
+    subst (λ (x : Waiting). ◌≡◌ {A = ℕ} (if is_same v.is_unordered x.is_unordered then 1 else 0) 1) same (rw (same_kind v.is_unordered) refl)
+
+-- the next number is the first after those that are counted
+next_of : (u : UnderWay) (messages : List Waiting) (w : Waiting) (kind : Bool) (next : Bool → ℕ) → front_of messages ≡ Some w → next w.is_unordered % 2 ^ 32 ≡ (u.mid + 1) % 2 ^ 32
+    → next kind % 2 ^ 32 ≡ (floor_of (Some u) messages kind (next kind % 2 ^ 32) + count_of (Some u) messages kind) % 2 ^ 32
+unfolding floor_of count_of is_same
+next_of u [] w kind next front is = absurd (cc)
+next_of u (v ∷ messages) w kind next front is =
+    let same : v ≡ w = cc in
+    go v.is_unordered kind (subst (λ (x : Waiting). next x.is_unordered % 2 ^ 32 ≡ (u.mid + 1) % 2 ^ 32) (sym same) is)
+  where
+    go : (its kind : Bool) → next its % 2 ^ 32 ≡ (u.mid + 1) % 2 ^ 32 → next kind % 2 ^ 32 ≡ ((if is_same its kind then u.mid % 2 ^ 32 else next kind % 2 ^ 32) + (if is_same its kind then 1 else 0)) % 2 ^ 32
+    go true true e = e ∙ omega arith
+    go true false e = omega arith
+    go false true e = omega arith
+    go false false e = e ∙ omega arith
+
+-- each stream's message under way, if it has one, has the last number
+pub counts_rest : (streams : List Stream) (held : Option StreamId) → ((id : ℕ) (u : UnderWay) → (stream_named id streams).under_way ≡ Some u → HasLastNumber streams id u) → Begins true streams held
+unfolding floor_of count_of
+counts_rest streams held each =
     record {
       floors = floors;
       counts = record {
         counts = counts;
-        few = λ id b. elim (is_or_other u.stream_id.0 waiting.is_unordered id b) [
-          | inl e ↦ rw e.0 (rw e.1 (rw counts_here (omega arith)))
-          | inr other ↦ rw (counts_else id b other) (omega arith)
-        ];
-        next = λ id b. elim (is_or_other u.stream_id.0 waiting.is_unordered id b) [
-          | inl e ↦ rw e.0 (rw e.1 (rw counts_here (rw floors_here (next ∙ omega arith))))
-          | inr other ↦ rw (counts_else id b other) (rw (floors_else id b other) (omega arith))
-        ];
+        few = λ id b. (let few = count_few (stream_named id streams).under_way (stream_named id streams).messages b in omega (arith, few));
+        next = λ id b. next id b (stream_named id streams).under_way refl;
         below = λ n f at. absurd (cc);
         apart = λ m n f g at at'. absurd (cc);
-        going = record {
-          waiting = waiting;
-          front = front;
-          mid = mid % 2 ^ 32;
-          is = is ∙ omega arith;
-          from = rw floors_here (omega arith);
-          last = rw counts_here (rw floors_here (omega arith));
-          came = λ f e. absurd (cc);
-        };
+        going = λ id. going id (stream_named id streams).under_way refl;
       };
     }
   where
     floors : ℕ → Bool → ℕ
-    floors = set_both u.stream_id.0 waiting.is_unordered (mid % 2 ^ 32) (first_floors streams)
+    floors id b = floor_of (stream_named id streams).under_way (stream_named id streams).messages b (next_mid b (stream_named id streams) % 2 ^ 32)
 
     counts : ℕ → Bool → ℕ
-    counts = set_both u.stream_id.0 waiting.is_unordered 1 (λ id b. 0)
+    counts id b = count_of (stream_named id streams).under_way (stream_named id streams).messages b
 
-    floors_here : floors u.stream_id.0 waiting.is_unordered ≡ mid % 2 ^ 32
-    floors_here = set_here u.stream_id.0 waiting.is_unordered (mid % 2 ^ 32) (first_floors streams)
+    next : (id : ℕ) (b : Bool) (u : Option UnderWay) → (stream_named id streams).under_way ≡ u → next_mid b (stream_named id streams) % 2 ^ 32 ≡ (floors id b + counts id b) % 2 ^ 32
+    next id b u is =
+        subst (λ (v : Option UnderWay). next_mid b (stream_named id streams) % 2 ^ 32
+        ≡ (floor_of v (stream_named id streams).messages b (next_mid b (stream_named id streams) % 2 ^ 32) + count_of v (stream_named id streams).messages b) % 2 ^ 32) (sym is) (go u is)
+      where
+        go : (v : Option UnderWay) → (stream_named id streams).under_way ≡ v
+            → next_mid b (stream_named id streams) % 2 ^ 32 ≡ (floor_of v (stream_named id streams).messages b (next_mid b (stream_named id streams) % 2 ^ 32) + count_of v (stream_named id streams).messages b) % 2 ^ 32
+        go None e = omega arith
+        go (Some v) e = (let last = each id v e in next_of v (stream_named id streams).messages last.waiting b (λ kind. next_mid kind (stream_named id streams)) last.front last.next)
 
-    floors_else : (id : ℕ) (b : Bool) → Other u.stream_id.0 waiting.is_unordered id b → floors id b ≡ first_floors streams id b
-    floors_else id b other = set_elsewhere u.stream_id.0 waiting.is_unordered (mid % 2 ^ 32) (first_floors streams) id b other
-
-    counts_here : counts u.stream_id.0 waiting.is_unordered ≡ 1
-    counts_here = set_here u.stream_id.0 waiting.is_unordered 1 (λ id b. 0)
-
-    counts_else : (id : ℕ) (b : Bool) → Other u.stream_id.0 waiting.is_unordered id b → counts id b ≡ 0
-    counts_else id b other = set_elsewhere u.stream_id.0 waiting.is_unordered 1 (λ id b. 0) id b other
+    going : (id : ℕ) (u : Option UnderWay) → (stream_named id streams).under_way ≡ u → LastIs (new_history floors) streams counts id u
+    going id None is = tt
+    going id (Some v) is =
+        let last = each id v is in
+        let floor : floors id last.waiting.is_unordered ≡ v.mid % 2 ^ 32 =
+        ap (λ (u : Option UnderWay). floor_of u (stream_named id streams).messages last.waiting.is_unordered (next_mid last.waiting.is_unordered (stream_named id streams) % 2 ^ 32)) is
+        ∙ floor_here v (stream_named id streams).messages last.waiting (next_mid last.waiting.is_unordered (stream_named id streams) % 2 ^ 32) last.front in
+        let count : counts id last.waiting.is_unordered ≡ 1 =
+        ap (λ (u : Option UnderWay). count_of u (stream_named id streams).messages last.waiting.is_unordered) is ∙ count_here v (stream_named id streams).messages last.waiting last.front in
+        record {
+          waiting = last.waiting;
+          front = last.front;
+          mid = v.mid % 2 ^ 32;
+          is = omega arith;
+          from = omega (arith, floor);
+          last = omega (arith, floor, count);
+          came = λ f e. absurd (cc);
+        }
 
 -- this holds for what waits, and for what an earlier association left under way
-pub counts_anew : (history : History) (streams : List Stream) (u : Option UnderWay) → CountsMessages history streams u → Begins true streams u
-counts_anew history streams u counts = go u counts.going
-  where
-    go : (v : Option UnderWay) → LastIs history streams counts.counts v → Begins true streams v
-    go None last = counts_idle streams
-    go (Some v) last =
-        counts_rest streams v last.waiting last.mid last.front last.is
-        (counts.next v.stream_id.0 last.waiting.is_unordered ∙ ap (λ (k : ℕ). k % 2 ^ 32) (sym last.last))
+pub counts_anew : (history : History) (streams : List Stream) (held : Option StreamId) → CountsMessages history streams → Begins true streams held
+counts_anew history streams held counts =
+    counts_rest streams held
+    (λ id u is. (
+    let last : IsLastBegun history streams counts.counts id u = subst (λ (v : Option UnderWay). LastIs history streams counts.counts id v) is (counts.going id) in
+    let next = counts.next id last.waiting.is_unordered in
+    let ends = last.last in
+    let number = last.is in
+    record { waiting = last.waiting; front = last.front; next = omega (arith, next, ends, number) }
+    ))
+
+-- no message is under way
+pub counts_idle : (streams : List Stream) (held : Option StreamId) → ((id : ℕ) → (stream_named id streams).under_way ≡ None) → Begins true streams held
+counts_idle streams held idle = counts_rest streams held (λ id u is. absurd (let clash : None ≡ Some u = sym (idle id) ∙ is in cc))
 
 -- without interleaving the SSNs continue; the rest of a message, if one is under way, isn't counted
-pub ssns_anew : (streams : List Stream) (u : Option UnderWay) → Begins false streams u
-ssns_anew streams None =
+pub ssns_anew : (streams : List Stream) (held : Option StreamId) → Begins false streams held
+ssns_anew streams held =
     record {
-      floors = λ id b. (stream_named id streams).next_ssn;
+      floors = λ id b. if is_some (stream_named id streams).under_way then 1 else (stream_named id streams).next_ssn;
       counts = record {
-        turns = λ id start. record { next = ap (λ (k : ℕ). k % 2 ^ 16) start.floor; sent = λ n f at. absurd (cc); going = λ v is. absurd (cc) };
+        turns = λ id start. turns id (is_some (stream_named id streams).under_way) refl start.floor;
         closes = λ n f g at. absurd (cc);
         rests = λ idle f at. absurd (cc);
       };
     }
-ssns_anew streams (Some u) =
-    record {
-      floors = λ id b. 1;
-      counts = record {
-        turns = λ id start. absurd (let clash : 1 ≡ 0 = start.floor in omega (arith, clash));
-        closes = λ n f g at. absurd (cc);
-        rests = λ idle f at. absurd (cc);
-      };
-    }
+  where
+    turns : (id : ℕ) (b : Bool) → is_some (stream_named id streams).under_way ≡ b → (if b then 1 else (stream_named id streams).next_ssn) ≡ 0 → CountsTurns id [] streams
+    turns id true some floor = absurd (omega (arith, floor))
+    turns id false none floor =
+        record {
+          next = ap (λ (k : ℕ). k % 2 ^ 16) floor;
+          sent = λ n f at. absurd (cc);
+          going = λ v is. absurd (let clash : true ≡ false = sym (ap is_some is) ∙ none in cc);
+        }
 
 -- what a receiver knows of the log
 pub told : (history : History) (queue : SendQueueState) → NumbersMessages history queue → length history.log < 2 ^ 31 → IsUnambiguous history
 told history queue numbers small = go queue.is_interleaved numbers.kinds numbers.counts
   where
-    go : (b : Bool) → AreOfKind b history.log → CountsByKind b history queue.streams queue.under_way → IsUnambiguous history
+    go : (b : Bool) → AreOfKind b history.log → CountsByKind b history queue.streams queue.held → IsUnambiguous history
     go false kinds counts = plain kinds
     go true kinds c =
         interleaved kinds small

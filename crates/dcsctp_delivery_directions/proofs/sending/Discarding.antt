@@ -1,128 +1,177 @@
 -- What the send queue drops.
-use Rattle.std.proofs.Common.{◌≡◌, ℕ, ◌+◌, ◌-◌, List, ◌∷◌, length, drop, refl, sym, ◌∙◌, ap, arith, subst, inl, inr}
-use Rattle.std.specs.Prelude.{Option, None, Some}
-use Rattle.std.proofs.lemmas.List.{get_or-set_same}
+use Rattle.std.proofs.Common.{◌≡◌, ℕ, true, false, ◌<◌, ◌+◌, ◌^◌, List, ◌∷◌, length, drop, refl, sym, ◌∙◌, ap, arith, subst, inl, inr}
+use Rattle.std.specs.Prelude.{Option, None, Some, is_some, if◌then◌else◌}
 use Rattle.dcsctp_spec.specs.endpoint.Event.{Event}
 use Rattle.dcsctp_spec.specs.types.declared.sending.UnderWay.{UnderWay}
-use Rattle.dcsctp_spec.specs.types.queues.SendStreams.{Waiting, Stream, front_of, without_front, unused_stream, stream_at}
+use Rattle.dcsctp_spec.specs.types.queues.SendStreams.{Waiting, Stream, front_of, unused_stream, stream_at, progress_size}
 use Rattle.dcsctp_spec.specs.queues.SendQueue.{SendQueueState}
-use Rattle.dcsctp_spec.specs.queues.Sending.{Fragment, Drops, none, more, reduced_queue, without_rest, TakesFragment, Discards, IsMessageUnderWay}
+use Rattle.dcsctp_spec.specs.queues.Sending.{Fragment, without_rest, released_queue, is_kept_whole, TakesFragment, Discards, IsMessageUnderWay}
 use Rattle.dcsctp_delivery_directions.specs.sending.Places.{at_place}
-use Rattle.dcsctp_delivery_directions.specs.sending.Log.{Message, Piece, Slot, History, with_slot}
-use Rattle.dcsctp_delivery_directions.specs.sending.Pieces.{AllBeyond, IsGoing, HoldsQueued}
-use Rattle.dcsctp_delivery_directions.specs.sending.Numbers.{NumbersMessages}
-use Rattle.dcsctp_delivery_directions.specs.sending.Weights.{HasRoomForLog}
-use Rattle.dcsctp_delivery_directions.proofs.sending.Places.{decide, at_cases}
-use Rattle.dcsctp_delivery_directions.proofs.sending.Weights.{weight_same, weight_front}
-use Rattle.dcsctp_delivery_directions.proofs.sending.Streams.{newest_at, rest_shorter, distinct_on, small_on, wait_on, shorter_beyond, ascend_on, Shorter, reduced_alike, front_queued}
-use Rattle.dcsctp_delivery_directions.proofs.sending.Produced.{none_beyond, there_or_empty}
-use Rattle.dcsctp_delivery_directions.proofs.sending.Numbers.{kind_dropped, numbers_then, numbers_reduced, numbers_without, numbered_ended}
+use Rattle.dcsctp_delivery_directions.specs.sending.Log.{Message, Piece, newest, newest_on, History, with_slot}
+use Rattle.dcsctp_delivery_directions.specs.sending.Pieces.{WaitingWasQueued, AllQueued, AllBeyond, Ascend, unbegun, Going, IsGoing, HoldsQueued}
+use Rattle.dcsctp_delivery_directions.specs.sending.Numbers.{stream_named, HoldsWhole, NumbersMessages}
+use Rattle.dcsctp_delivery_directions.specs.sending.Weights.{weigh, HasRoomForLog}
+use Rattle.dcsctp_delivery_directions.proofs.sending.Places.{decide}
+use Rattle.dcsctp_delivery_directions.proofs.sending.Weights.{front_weighs, weight_changed, sum_changed}
+use Rattle.dcsctp_delivery_directions.proofs.sending.Newest.{newest_last, is_newest}
+use Rattle.dcsctp_delivery_directions.proofs.sending.StreamWeights.{front_queued}
+use Rattle.dcsctp_delivery_directions.proofs.sending.Streams.{queued_drop, ascend_drop, unbegun_rest}
+use Rattle.dcsctp_delivery_directions.proofs.sending.StreamsNamed.{found_at}
+use Rattle.dcsctp_delivery_directions.proofs.sending.Stages.{with_none}
+use Rattle.dcsctp_delivery_directions.proofs.sending.Fragments.{each_changed, changes_ids, changes_distinct, changes_named}
+use Rattle.dcsctp_delivery_directions.proofs.sending.WhatLeaves.{DropsFront, drops_front, released_same}
+use Rattle.dcsctp_delivery_directions.proofs.sending.Produced.{going_none}
+use Rattle.dcsctp_delivery_directions.proofs.sending.ProducedHeld.{held_on, one_held, released_ours}
+use Rattle.dcsctp_delivery_directions.proofs.sending.Numbers.{kind_dropped, numbers_rest}
+use Rattle.dcsctp_delivery_directions.proofs.sending.Numbered.{numbered_ended}
 use Rattle.dcsctp_delivery_directions.proofs.sending.ProducedNumbers.{produced_kind}
-use Rattle.dcsctp_delivery_directions.proofs.sending.Pieces.{here_going, there_going}
-
-pub drops_keep_under_way : {P : Type 0} (now : ℕ) (old : SendQueueState) (events : List (Event P)) (new : SendQueueState) → Drops now old events new → new.under_way ≡ old.under_way
-drops_keep_under_way now old events new none = refl
-drops_keep_under_way now old events new (more events' queue place message drops next front expired) = drops_keep_under_way now old events' queue drops
-
--- the rest of the message under way is dropped, and its end may take a TSN
-module _ (queued : List Message) (log : List Slot) (old : SendQueueState) (stream message_id : ℕ) (named : IsMessageUnderWay old stream message_id) (queue_holds : HoldsQueued queued log old.streams old.under_way) where
-  left : List Stream
-  left = (without_rest named.place named.under_way.sent named.message old).streams
-
-  left_shorter : Shorter old.streams left
-  unfolding left
-  left_shorter = rest_shorter named.place named.under_way.sent named.message old
-
-  going_on : HoldsQueued queued log old.streams (Some named.under_way)
-  going_on = subst (λ (u : Option UnderWay). HoldsQueued queued log old.streams u) named.goes_on queue_holds
-
-  named_id : (stream_at old.streams named.place).id ≡ named.under_way.stream_id.0
-  named_id = named.is ∙ sym named.same
-
-  -- the newest piece is of the message that is dropped
-  pub newest_named : (n : ℕ) (f : Piece) → at_place n log ≡ Some (Some f) → n + 1 ≡ length log → f.place ≡ message_id
-  newest_named n f at last =
-      elim going_on.going.came [
-        | inl unsent ↦ absurd (let empty : length log ≡ 0 = ap (λ (l : List Slot). length l) unsent in omega (arith, empty, last))
-        | inr c ↦
-            (let (k, next, at_k) = newest_at log (Some c.piece) c.at in
-            let here : k ≡ n = omega (arith, next, last) in
-            let both : Some (Some f) ≡ Some (Some c.piece) = sym at ∙ ap (λ (m : ℕ). at_place m log) (sym here) ∙ at_k in
-            let same : f ≡ c.piece = cc in
-            ap (λ (x : Piece). x.place) same ∙ c.is ∙ sym (going_on.going.front named.place named.message named_id named.front) ∙ named.named)
-      ]
-
-  left_here : (stream_at left named.place).messages ≡ drop 1 (stream_at old.streams named.place).messages
-  unfolding left
-  left_here =
-      let between = reduced_queue named.place (length named.message.payload - named.under_way.sent) old in
-      let same = reduced_alike named.place (length named.message.payload - named.under_way.sent) old in
-      let size : length between.streams ≡ length old.streams = same.sizes in
-      ap (λ (s : Stream). s.messages) (get_or-set_same between.streams named.place (without_front (stream_at between.streams named.place)) (unused_stream 0 0 0) (omega (arith, named.within)))
-      ∙ ap (λ (l : List Waiting). drop 1 l) (same.messages named.place)
-
-  beyond_left : (q n : ℕ) (f : Piece) → at_place n (None ∷ log) ≡ Some (Some f) → f.message.stream ≡ (stream_at left q).id → AllBeyond f.place (stream_at left q).messages
-  beyond_left q n f at of =
-      elim (at_cases n None (Some f) log at) [
-        | inl e ↦ absurd (cc)
-        | inr at' ↦
-            elim (decide (stream_at old.streams q).id (stream_at old.streams named.place).id) [
-              | inl same ↦
-                  elim (there_or_empty old.streams q) [
-                    | inr e ↦ shorter_beyond f.place q old.streams left left_shorter (none_beyond f.place (stream_at old.streams q).messages e)
-                    | inl below ↦
-                        (let is : q ≡ named.place = queue_holds.distinct q named.place below named.within same in
-                        let rest = here_going queued log named.place old named.under_way going_on named_id n f at' (of ∙ left_shorter.ids q ∙ same) in
-                        subst (λ (k : ℕ). AllBeyond f.place (stream_at left k).messages) (sym is) (subst (λ (l : List Waiting). AllBeyond f.place l) (sym left_here) rest))
-                  ]
-              | inr other ↦
-                  shorter_beyond f.place q old.streams left left_shorter (there_going queued log named.place old named.under_way going_on named_id q n f at' (of ∙ left_shorter.ids q) other)
-            ]
-      ]
-
-  left_room : HasRoomForLog queued (None ∷ log) left None
-  unfolding left
-  left_room =
-      let g : IsGoing queued log old.streams named.under_way = going_on.going in
-      let w = front_queued queued (stream_at old.streams named.place).id (stream_at old.streams named.place).messages named.message (queue_holds.wait named.place) named.front in
-      let is_named : named.message.message_id ≡ g.place = g.front named.place named.message named_id named.front in
-      let found : Some w.message ≡ Some g.message = sym w.at ∙ ap (λ (k : ℕ). at_place k queued) is_named ∙ g.at in
-      let same_message : w.message ≡ g.message = cc in
-      let sizes : length named.message.payload ≡ length g.message.payload = ap (λ (l : List ℕ). length l) w.is.payload ∙ ap (λ (m : Message). length m.payload) same_message in
-      let between = reduced_queue named.place (length named.message.payload - named.under_way.sent) old in
-      let alike' = reduced_alike named.place (length named.message.payload - named.under_way.sent) old in
-      let same = weight_same old.streams between.streams alike'.sizes alike'.messages in
-      let acknowledged = weight_front between.streams named.place named.message (ap front_of (alike'.messages named.place) ∙ named.front) in
-      let room = going_on.room in
-      record { whole = omega (arith, same, acknowledged, room.whole); count = omega (arith, same, acknowledged, room.count, sizes, g.unfinished) }
-
-  left_hold : HoldsQueued queued (None ∷ log) left None
-  left_hold =
-      record {
-        wait = wait_on queued old.streams left left_shorter queue_holds.wait;
-        ascend = ascend_on old.streams left left_shorter queue_holds.ascend;
-        beyond = beyond_left;
-        distinct = distinct_on old.streams left left_shorter queue_holds.distinct;
-        small = small_on old.streams left left_shorter queue_holds.small;
-        going = tt;
-        room = left_room;
-      }
 
 pub takes_kind : {P : Type 0} (now max : ℕ) (old new : SendQueueState) (before after : List (Event P)) (part : Fragment) → TakesFragment now max old before part new after → new.is_interleaved ≡ old.is_interleaved
 takes_kind now max old new before after part takes =
     ap (λ (q : SendQueueState). q.is_interleaved) takes.left ∙ produced_kind takes.place max takes.message takes.under_way takes.queue ∙ kind_dropped now old takes.drops.events takes.queue takes.drops.drops
 
-pub discards_numbered : {P : Type 0} (history : History) (old new : SendQueueState) (stream message_id : ℕ) (before after : List (Event P)) → NumbersMessages history old → Discards old stream message_id before new after → NumbersMessages (with_slot None history) new
-discards_numbered history old new stream message_id before after numbers discards =
-    let rest : ℕ = length discards.named.message.payload - discards.named.under_way.sent in
-    let between : SendQueueState = reduced_queue discards.named.place rest old in
-    subst (λ (b : SendQueueState). NumbersMessages (with_slot None history) b) (sym discards.left)
-    (numbered_ended history old (record (without_rest discards.named.place discards.named.under_way.sent discards.named.message old) { under_way = None }) refl refl
-    (numbers_then None old.streams between.streams (without_rest discards.named.place discards.named.under_way.sent discards.named.message old).streams (numbers_reduced None discards.named.place rest old)
-    (numbers_without discards.named.place between.streams)) numbers)
+-- The rest of the message under way is dropped, and its end may take a TSN. It is one that is kept whole.
+module _ (queued : List Message) (history : History) (old : SendQueueState) (stream message_id : ℕ) (named : IsMessageUnderWay old stream message_id) (holds : HoldsQueued queued history.log old.streams)
+    (numbers : NumbersMessages history old) (whole : is_kept_whole named.message old ≡ true) where
+  place_named : stream_named stream old.streams ≡ stream_at old.streams named.place
+  place_named = subst (λ (k : ℕ). stream_named k old.streams ≡ stream_at old.streams named.place) named.is (found_at (unused_stream 0 0 0) named.place old.streams named.within holds.distinct)
 
-pub discards_hold : {P : Type 0} (queued : List Message) (log : List Slot) (old new : SendQueueState) (stream message_id : ℕ) (before after : List (Event P)) → HoldsQueued queued log old.streams old.under_way
-    → Discards old stream message_id before new after → HoldsQueued queued (None ∷ log) new.streams new.under_way
+  pub held_so : old.held ≡ held_on stream
+  held_so =
+      numbers.whole.each stream named.message (ap (λ (s : Stream). is_some s.under_way) place_named ∙ ap is_some named.goes_on) (ap (λ (s : Stream). front_of s.messages) place_named ∙ named.front) whole
+
+  pub going : IsGoing queued history.log (stream_at old.streams named.place) named.under_way
+  going = subst (Going queued history.log (stream_at old.streams named.place)) named.goes_on (holds.going named.place)
+
+  pub of_stream : named.under_way.stream_id.0 ≡ stream
+  of_stream = sym going.is ∙ named.is
+
+  is_front : going.waiting ≡ named.message
+  is_front = let both : Some going.waiting ≡ Some named.message = sym going.front ∙ named.front in cc
+
+  pub of_message : going.place ≡ message_id
+  of_message = sym going.named ∙ ap (λ (w : Waiting). w.message_id) is_front ∙ named.named
+
+  -- the newest piece is of the message that is dropped
+  pub newest_named : (n : ℕ) (f : Piece) → at_place n history.log ≡ Some (Some f) → n + 1 ≡ length history.log → f.place ≡ message_id
+  newest_named n f at last =
+      let (g, on, newest) = newest_last stream history.log (numbers.whole.newest stream held_so) (omega (arith, last)) in
+      let both : Some (Some g) ≡ Some (Some f) = sym newest ∙ is_newest n f history.log last at in
+      let same : g ≡ f = cc in
+      elim going.came [
+        | inl none ↦ absurd (let clash : None ≡ Some g = sym none ∙ ap (λ (k : ℕ). newest_on k history.log) of_stream ∙ on in cc)
+        | inr c ↦
+            (let both' : Some c.piece ≡ Some g = sym c.at ∙ ap (λ (k : ℕ). newest_on k history.log) of_stream ∙ on in
+            let same' : c.piece ≡ g = cc in
+            ap (λ (x : Piece). x.place) (sym same) ∙ ap (λ (x : Piece). x.place) (sym same') ∙ c.is ∙ of_message)
+      ]
+
+  left : SendQueueState
+  left = released_queue stream (without_rest named.place named.under_way.sent named.message old)
+
+  d : DropsFront named.place old (without_rest named.place named.under_way.sent named.message old)
+  d = drops_front named.place named.under_way.sent named.message old named.within
+
+  abbrev streams : List Stream
+  streams = (without_rest named.place named.under_way.sent named.message old).streams
+
+  rest_is : unbegun (stream_at streams named.place) ≡ drop 1 (stream_at old.streams named.place).messages
+  rest_is = ap (λ (u : Option UnderWay). drop (if is_some u then 1 else 0) (stream_at streams named.place).messages) d.progress_is ∙ d.messages_are
+
+  beyond_left : (q n : ℕ) (f : Piece) → at_place n (None ∷ history.log) ≡ Some (Some f) → f.message.stream ≡ (stream_at streams q).id → AllBeyond f.place (unbegun (stream_at streams q))
+  beyond_left q n f at on =
+      let at' = with_none history.log n f at in
+      elim (decide q named.place) [
+        | inl here ↦
+            subst (λ (k : ℕ). AllBeyond f.place (unbegun (stream_at streams k))) (sym here)
+            (subst (λ (l : List Waiting). AllBeyond f.place l) (sym rest_is)
+            (unbegun_rest f.place (stream_at old.streams named.place) (holds.beyond named.place n f at' (on ∙ ap (λ (k : ℕ). (stream_at streams k).id) here ∙ d.one.id))))
+        | inr other ↦
+            (let same = d.one.others q other in
+            subst (λ (s : Stream). AllBeyond f.place (unbegun s)) (sym same) (holds.beyond q n f at' (on ∙ ap (λ (s : Stream). s.id) same)))
+      ]
+
+  left_room : HasRoomForLog queued (None ∷ history.log) streams
+  left_room =
+      let w : WaitingWasQueued queued (stream_at old.streams named.place).id named.message = front_queued queued (stream_at old.streams named.place).id (stream_at old.streams named.place).messages named.message (holds.wait named.place) named.front in
+      let found : Some w.message ≡ Some going.message = sym w.at ∙ ap (λ (k : ℕ). at_place k queued) (named.named ∙ sym of_message) ∙ going.at in
+      let same_message : w.message ≡ going.message = cc in
+      let sizes : length named.message.payload ≡ length going.message.payload = ap (λ (l : List ℕ). length l) w.is.payload ∙ ap (λ (m : Message). length m.payload) same_message in
+      let unfinished = going.unfinished in
+      let weights = weight_changed named.place old.streams streams d.one.sizes named.within d.one.others in
+      let here : weigh (stream_at streams named.place).messages ≡ weigh (drop 1 (stream_at old.streams named.place).messages) = ap weigh d.messages_are in
+      let front = front_weighs (stream_at old.streams named.place).messages named.message named.front in
+      let sums = sum_changed (λ (s : Stream). progress_size s.under_way) named.place old.streams streams d.one.sizes named.within d.one.others in
+      let there : progress_size (stream_at streams named.place).under_way ≡ 0 = ap progress_size d.progress_is in
+      let sent : progress_size (stream_at old.streams named.place).under_way ≡ named.under_way.sent = ap progress_size named.goes_on in
+      let whole' = holds.room.whole in
+      let count = holds.room.count in
+      record { whole = omega (arith, weights, here, front, whole'); count = omega (arith, weights, here, front, sums, there, sent, sizes, unfinished, count) }
+
+  left_hold : HoldsQueued queued (None ∷ history.log) streams
+  left_hold =
+      record {
+        wait = each_changed (λ (s : Stream). AllQueued queued s.id s.messages) named.place old.streams streams d.one
+            (subst (λ (k : ℕ). AllQueued queued k (stream_at streams named.place).messages) (sym d.one.id)
+            (subst (λ (l : List Waiting). AllQueued queued (stream_at old.streams named.place).id l) (sym d.messages_are)
+            (queued_drop queued (stream_at old.streams named.place).id (stream_at old.streams named.place).messages (holds.wait named.place)))) holds.wait;
+        ascend = each_changed (λ (s : Stream). Ascend s.messages) named.place old.streams streams d.one
+            (subst (λ (l : List Waiting). Ascend l) (sym d.messages_are) (ascend_drop (stream_at old.streams named.place).messages (holds.ascend named.place))) holds.ascend;
+        beyond = beyond_left;
+        distinct = changes_distinct named.place old.streams streams d.one holds.distinct;
+        small = λ q. subst (λ (k : ℕ). k < 2 ^ 16) (sym (changes_ids named.place old.streams streams d.one q)) (holds.small q);
+        going = each_changed (λ (s : Stream). Going queued (None ∷ history.log) s s.under_way) named.place old.streams streams d.one
+            (subst (Going queued (None ∷ history.log) (stream_at streams named.place)) (sym d.progress_is) tt)
+            (λ q. going_none queued history.log (stream_at old.streams q) (stream_at old.streams q).under_way (holds.going q));
+        room = left_room;
+      }
+
+  -- no other message that is kept whole is under way
+  left_whole : HoldsWhole (None ∷ history.log) left
+  unfolding left
+  left_whole =
+      let idle : (released_queue stream (without_rest named.place named.under_way.sent named.message old)).held ≡ None =
+      released_same stream old (without_rest named.place named.under_way.sent named.message old) refl ∙ released_ours stream old (inr held_so) in
+      record {
+        each = λ id waiting is front kept. absurd (others id waiting is front kept);
+        held = λ id is. absurd (let clash : None ≡ held_on id = sym idle ∙ is in cc);
+        newest = λ id is. absurd (let clash : None ≡ held_on id = sym idle ∙ is in cc);
+      }
+    where
+      there : stream_named stream streams ≡ stream_at streams named.place
+      there = subst (λ (k : ℕ). stream_named k streams ≡ stream_at streams named.place) named.is (changes_named named.place old.streams streams d.one named.within holds.distinct)
+
+      others : (id : ℕ) (waiting : Waiting) → is_some (stream_named id streams).under_way ≡ true → front_of (stream_named id streams).messages ≡ Some waiting → is_kept_whole waiting old ≡ true → ⊥
+      others id waiting is front kept =
+          elim (decide id stream) [
+            | inl same ↦ (let clash : false ≡ true = ap is_some (sym d.progress_is) ∙ ap (λ (s : Stream). is_some s.under_way) (sym there) ∙ ap (λ (k : ℕ). is_some (stream_named k streams).under_way) (sym same) ∙ is in cc)
+            | inr ne ↦
+                (let same = d.one.named id (λ on. ne (on ∙ named.is)) in
+                ne (sym (one_held stream id old (inr held_so)
+                (numbers.whole.each id waiting (ap (λ (s : Stream). is_some s.under_way) (sym same) ∙ is) (ap (λ (s : Stream). front_of s.messages) (sym same) ∙ front) kept))))
+          ]
+
+  left_numbered : NumbersMessages (with_slot None history) left
+  unfolding left
+  left_numbered = numbered_ended history old (released_queue stream (without_rest named.place named.under_way.sent named.message old)) refl (numbers_rest named.place named.under_way.sent named.message old) left_whole numbers
+
+  -- what is under way then was under way
+  pub left_ways : (id : ℕ) → is_some (stream_named id streams).under_way ≡ true → is_some (stream_named id old.streams).under_way ≡ true
+  left_ways id is = ap is_some (sym ((numbers_rest named.place named.under_way.sent named.message old).fronts id is).under_way) ∙ is
+
+pub discards_numbered : {P : Type 0} (queued : List Message) (history : History) (old new : SendQueueState) (stream message_id : ℕ) (before after : List (Event P)) → HoldsQueued queued history.log old.streams → NumbersMessages history old
+    → (discards : Discards old stream message_id before new after) → is_kept_whole discards.named.message old ≡ true → NumbersMessages (with_slot None history) new
 unfolding left
-discards_hold queued log old new stream message_id before after queue_holds discards =
-    subst (λ (b : SendQueueState). HoldsQueued queued (None ∷ log) b.streams b.under_way) (sym discards.left) (left_hold queued log old stream message_id discards.named queue_holds)
+discards_numbered queued history old new stream message_id before after holds numbers discards whole =
+    subst (λ (b : SendQueueState). NumbersMessages (with_slot None history) b) (sym discards.left) (left_numbered queued history old stream message_id discards.named holds numbers whole)
+
+pub discards_hold : {P : Type 0} (queued : List Message) (history : History) (old new : SendQueueState) (stream message_id : ℕ) (before after : List (Event P)) → HoldsQueued queued history.log old.streams → NumbersMessages history old
+    → (discards : Discards old stream message_id before new after) → is_kept_whole discards.named.message old ≡ true → HoldsQueued queued (None ∷ history.log) new.streams
+discards_hold queued history old new stream message_id before after holds numbers discards whole =
+    subst (λ (b : SendQueueState). HoldsQueued queued (None ∷ history.log) b.streams) (sym discards.left) (left_hold queued history old stream message_id discards.named holds numbers whole)
+
+pub discards_ways : {P : Type 0} (queued : List Message) (history : History) (old new : SendQueueState) (stream message_id : ℕ) (before after : List (Event P)) → HoldsQueued queued history.log old.streams → NumbersMessages history old
+    → (discards : Discards old stream message_id before new after) → is_kept_whole discards.named.message old ≡ true
+    → (id : ℕ) → is_some (stream_named id new.streams).under_way ≡ true → is_some (stream_named id old.streams).under_way ≡ true
+discards_ways queued history old new stream message_id before after holds numbers discards whole id is =
+    left_ways queued history old stream message_id discards.named holds numbers whole id (ap (λ (b : SendQueueState). is_some (stream_named id b.streams).under_way) (sym discards.left) ∙ is)

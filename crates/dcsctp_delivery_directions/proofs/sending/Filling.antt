@@ -1,9 +1,8 @@
 -- What a packet is filled with.
 use Rattle.std.proofs.Common.{◌≡◌, ℕ, Bool, true, false, ◌<◌, ◌+◌, ◌-◌, ◌≤◌, ◌^◌, List, [], ◌∷◌, ◌++◌, length, refl, sym, ◌∙◌, ap, arith, subst, inl, inr}
-use Rattle.std.specs.Prelude.{Option, None, Some, nat_lt, min, if◌then◌else◌, slice_get}
+use Rattle.std.specs.Prelude.{Some, is_some, nat_lt, min, if◌then◌else◌, slice_get}
 use Rattle.std.proofs.lemmas.Bool.Decides.{nat_tests}
 use Rattle.dcsctp_spec.specs.types.declared.progress.Change.TheVariants.{SendAgain}
-use Rattle.dcsctp_spec.specs.types.declared.sending.UnderWay.{UnderWay}
 use Rattle.dcsctp_spec.specs.queues.AtOnce.{empty_stage, SendsAtOnce}
 use Rattle.dcsctp_spec.specs.queues.Filling.{Stage, SendsMarked, payload_room, SendsNew, FindsNone, StepAgain, MayAdd, StepNew, StageSteps, none, more, resent_packet_counted, FillsPacket}
 use Rattle.dcsctp_spec.specs.types.queues.Progress.{is_abandoned}
@@ -17,10 +16,11 @@ use Rattle.dcsctp_delivery_directions.specs.sending.Pieces.{HoldsQueued}
 use Rattle.dcsctp_delivery_directions.specs.sending.Numbers.{stream_named, is_handed_out, IsCurrent, AreKept, NumbersMessages}
 use Rattle.dcsctp_delivery_directions.specs.sending.Stages.{Bears, Pends, AreMarks, Stands, Stays}
 use Rattle.dcsctp_delivery_directions.proofs.sending.Pieces.{hands_out}
-use Rattle.dcsctp_delivery_directions.proofs.sending.Marks.{pends_later, takes_on, marks_more, counted_pends}
-use Rattle.dcsctp_delivery_directions.proofs.sending.Discarding.{drops_keep_under_way, takes_kind}
+use Rattle.dcsctp_delivery_directions.proofs.sending.Marks.{pends_later, marks_stay, takes_on, takes_ways, marks_more, counted_pends}
+use Rattle.dcsctp_delivery_directions.proofs.sending.Discarding.{takes_kind}
 use Rattle.dcsctp_delivery_directions.proofs.sending.Places.{at_new, at_cases}
-use Rattle.dcsctp_delivery_directions.proofs.sending.Numbers.{NumbersStay, numbered_stay, numbers_dropped, kind_dropped}
+use Rattle.dcsctp_delivery_directions.proofs.sending.Numbers.{numbers_dropped, kind_dropped}
+use Rattle.dcsctp_delivery_directions.proofs.sending.Numbered.{numbered_dropped}
 use Rattle.dcsctp_delivery_directions.proofs.sending.Streams.{drops_hold}
 use Rattle.dcsctp_delivery_directions.proofs.sending.Limits.{sending_leaves, new_limited, marked_kept}
 use Rattle.dcsctp_delivery_directions.proofs.sending.Stages.{whole_grown, bears_grown, cut_more, bears_changed}
@@ -112,9 +112,10 @@ new_stays queued history first acknowledged now old new stands may sends =
             (λ plain none. whole_grown history.log acknowledged (Some handed.piece) sends.item old.queue.outstanding.items stands.bears.count (stands.bears.whole plain none)
             (continues queued history first acknowledged old.queue.outstanding stands.bears plain none sends.item.fragment new.waiting handed (kept ∙ sym stands.kind ∙ plain)) (λ e. absurd (cc))
             (λ is unended. new_limited sends.item sends.is_fresh.progress is) (λ begins. ap (λ (l : List Slot). length l) (stands.pends.none (sym sends.begins ∙ begins) none))));
-        pends = pends_later (Some handed.piece) history first old.waiting.under_way new.queue.reset_begun stands.marks (λ begun none. (let clash : true ≡ false = sym begun ∙ ap (λ (s : Stage). s.queue.reset_begun) sends.is in absurd (cc)));
-        marks = marks_more queued history first old.waiting.under_way new.waiting.under_way sends.item.fragment new.waiting handed stands.cut
-            (takes_on queued history now (payload_room (header old.queue.outstanding) old.room) old.waiting new.waiting old.told new.told sends.item.fragment handed sends.takes) stands.marks;
+        pends = pends_later (Some handed.piece) history first old.waiting.streams new.queue.reset_begun stands.marks (λ begun none. (let clash : true ≡ false = sym begun ∙ ap (λ (s : Stage). s.queue.reset_begun) sends.is in absurd (cc)));
+        marks = marks_more queued history first old.waiting.streams sends.item.fragment new.waiting handed stands.cut
+            (takes_on queued history now (payload_room (header old.queue.outstanding) old.room) old.waiting new.waiting old.told new.told sends.item.fragment stands.queue_holds handed sends.takes)
+            (takes_ways queued history now (payload_room (header old.queue.outstanding) old.room) old.waiting new.waiting old.told new.told sends.item.fragment stands.queue_holds handed sends.takes) stands.marks;
         numbers = handed.numbers;
         kind = ap (λ (s : Stage). s.queue.outstanding.is_interleaved) sends.is ∙ stands.kind ∙ sym kept;
       };
@@ -122,19 +123,16 @@ new_stays queued history first acknowledged now old new stands may sends =
 
 finds_stays : (queued : List Message) (history : History) (first acknowledged now : ℕ) (old new : Stage) → Stands queued history first acknowledged old → FindsNone now old new → Stays queued history first acknowledged new
 finds_stays queued history first acknowledged now old new stands finds =
-    let idle = subst (λ (u : Option UnderWay). HoldsQueued queued history.log old.waiting.streams u) finds.takes.idle stands.queue_holds in
-    let left = drops_hold queued history.log now old.waiting finds.takes.drops.events new.waiting finds.takes.drops.drops idle in
+    let stays = numbers_dropped now old.waiting finds.takes.drops.events new.waiting finds.takes.drops.drops in
     let kept : new.waiting.is_interleaved ≡ old.waiting.is_interleaved = kind_dropped now old.waiting finds.takes.drops.events new.waiting finds.takes.drops.drops in
-    let none_going : new.waiting.under_way ≡ None = drops_keep_under_way now old.waiting finds.takes.drops.events new.waiting finds.takes.drops.drops ∙ finds.takes.idle in
     stay queued history first acknowledged new
     (record {
-      queue_holds = subst (λ (u : Option UnderWay). HoldsQueued queued history.log new.waiting.streams u) (sym none_going) left;
+      queue_holds = drops_hold queued history.log now old.waiting finds.takes.drops.events new.waiting finds.takes.drops.drops stands.queue_holds;
       cut = stands.cut;
       bears = subst (λ (s : Stage). Bears history first acknowledged s.queue.outstanding) (sym finds.is) stands.bears;
       pends = subst (λ (s : Stage). Pends history s.queue.reset_begun) (sym finds.is) stands.pends;
-      marks = subst (λ (u : Option UnderWay). AreMarks history first u) (finds.takes.idle ∙ sym none_going) stands.marks;
-      numbers = numbered_stay history old.waiting new.waiting kept (none_going ∙ sym finds.takes.idle)
-          (subst (λ (u : Option UnderWay). NumbersStay u old.waiting.streams new.waiting.streams) (sym finds.takes.idle) (numbers_dropped now old.waiting finds.takes.drops.events new.waiting finds.takes.drops.drops)) stands.numbers;
+      marks = marks_stay history first old.waiting.streams new.waiting.streams (λ id some. sym (ap is_some (stays.fronts id).under_way) ∙ some) stands.marks;
+      numbers = numbered_dropped history now old.waiting finds.takes.drops.events new.waiting finds.takes.drops.drops stands.numbers;
       kind = ap (λ (s : Stage). s.queue.outstanding.is_interleaved) finds.is ∙ stands.kind ∙ sym kept;
     })
 
@@ -188,9 +186,9 @@ fills_stay queued history first acknowledged now old new stands fills =
 
 -- ---- a fast retransmission
 
-pub at_once_stays : (queued : List Message) (history : History) (first acknowledged now bytes : ℕ) (waiting : SendQueueState) (old new : RetransmissionState) (tsns : List ℕ) → HoldsQueued queued history.log waiting.streams waiting.under_way → IsLogOfPieces queued history.log
+pub at_once_stays : (queued : List Message) (history : History) (first acknowledged now bytes : ℕ) (waiting : SendQueueState) (old new : RetransmissionState) (tsns : List ℕ) → HoldsQueued queued history.log waiting.streams → IsLogOfPieces queued history.log
     → NumbersMessages history waiting → old.outstanding.is_interleaved ≡ waiting.is_interleaved
-    → Bears history first acknowledged old.outstanding → Pends history old.reset_begun → AreMarks history first waiting.under_way → SendsAtOnce now bytes waiting old new tsns → Stays queued history first acknowledged (record (empty_stage new waiting bytes) { tsns = tsns })
+    → Bears history first acknowledged old.outstanding → Pends history old.reset_begun → AreMarks history first waiting.streams → SendsAtOnce now bytes waiting old new tsns → Stays queued history first acknowledged (record (empty_stage new waiting bytes) { tsns = tsns })
 at_once_stays queued history first acknowledged now bytes waiting old new tsns queue_holds cut numbers kind bears pends marks sends =
     let start : Stands queued history first acknowledged (empty_stage (record old { fast_retransmit_due = false }) waiting bytes) = (record { queue_holds = queue_holds; cut = cut; bears = bears; pends = pends; marks = marks; numbers = numbers; kind = kind }) in
     let stays = steps_stay queued first acknowledged (SendsMarked now) (λ l o n s step. marked_stays queued l first acknowledged now o n s step) (λ o n step id. ap (λ (s : Stage). is_handed_out (stream_named id s.waiting.streams).pause) step.is) history (empty_stage (record old { fast_retransmit_due = false }) waiting bytes)

@@ -1,24 +1,25 @@
 -- Messages that are abandoned: their ends may take TSNs, which carry no piece.
 use Rattle.std.proofs.Common.{◌≡◌, ℕ, Bool, true, false, ◌<◌, ◌+◌, arith, List, [], ◌∷◌, ◌++◌, length, refl, sym, ◌∙◌, ap, subst, inl, inr}
-use Rattle.std.specs.Prelude.{Option, None, Some, slice_get}
+use Rattle.std.specs.Prelude.{◌||◌, not, None, Some, slice_get}
 use Rattle.std.proofs.lemmas.Bool.Decides.{leb_tells}
 use Rattle.dcsctp_spec.specs.types.declared.progress.Change.TheVariants.{Abandon}
-use Rattle.dcsctp_spec.specs.types.declared.sending.UnderWay.{UnderWay}
+use Rattle.dcsctp_spec.specs.types.queues.SendStreams.{stream_at}
 use Rattle.dcsctp_spec.specs.queues.Abandoning.{GivesUpFirst, GivesUpAll}
 use Rattle.dcsctp_spec.specs.queues.Filling.{Stage, ClosesMessage, DropsRestOfMessage, GivesUpItem, StageSteps, none, more}
 use Rattle.dcsctp_spec.specs.queues.ItemMessages.{EndsDropped}
 use Rattle.dcsctp_spec.specs.queues.Items.{Item}
 use Rattle.dcsctp_spec.specs.queues.NextItem.{is_abandonment_due}
 use Rattle.dcsctp_spec.specs.queues.Outstanding.{OutstandingState}
-use Rattle.dcsctp_spec.specs.queues.SendQueue.{SendQueueState}
-use Rattle.dcsctp_spec.specs.queues.Sending.{Fragment, Discards, DiscardsNamed}
+use Rattle.dcsctp_spec.specs.queues.SendQueue.{SendQueueState, queue_interleaves}
+use Rattle.dcsctp_spec.specs.queues.Sending.{Fragment, Discards, DiscardsNamed, IsMessageUnderWay, may_be_abandoned, is_kept_whole}
 use Rattle.dcsctp_delivery_directions.specs.sending.Log.{Message, Piece, Slot, History, log_extended, with_slot}
 use Rattle.dcsctp_delivery_directions.specs.sending.Places.{at_place}
 use Rattle.dcsctp_delivery_directions.specs.sending.Pieces.{HoldsQueued}
 use Rattle.dcsctp_delivery_directions.specs.sending.Numbers.{NumbersMessages}
 use Rattle.dcsctp_delivery_directions.specs.sending.Stages.{IsNamedFragment, IsOfLimited, Bears, Pends, AreMarks, Stands, Stays}
 use Rattle.dcsctp_delivery_directions.proofs.sending.Marks.{pends_later, marks_none, named_end, end_whole}
-use Rattle.dcsctp_delivery_directions.proofs.sending.Discarding.{newest_named, discards_numbered, discards_hold}
+use Rattle.dcsctp_delivery_directions.proofs.sending.Discarding.{newest_named, discards_numbered, discards_hold, discards_ways}
+use Rattle.dcsctp_delivery_directions.proofs.sending.StreamWeights.{front_queued}
 use Rattle.dcsctp_delivery_directions.proofs.sending.Places.{at_either}
 use Rattle.dcsctp_delivery_directions.proofs.sending.Limits.{limited_due, limited_same, limited_stays, limited_more}
 use Rattle.dcsctp_delivery_directions.proofs.sending.Stages.{with_none, at_last, whole_grown, bears_grown, bears_abandoned, cut_none}
@@ -48,11 +49,21 @@ drops_rest_ends : (queued : List Message) (history : History) (first acknowledge
 drops_rest_ends queued history first acknowledged own now last old new stands named limited tail drops =
     subst (λ (s : Stage). Ends queued history first acknowledged s) (sym drops.is) (go drops.drops.is_dropped drops.drops.drops drops.drops.ends)
   where
-    -- the newest piece is of the message that is dropped
-    dropped_limited : Discards old.waiting last.fragment.stream last.fragment.message_id old.told new.waiting new.told
+    -- the message that is dropped may be abandoned, so it is kept whole
+    kept_whole : (named' : IsMessageUnderWay old.waiting last.fragment.stream last.fragment.message_id) → is_kept_whole named'.message old.waiting ≡ true
+    kept_whole named' =
+        let streams = old.waiting.streams in
+        let was = front_queued queued (stream_at streams named'.place).id (stream_at streams named'.place).messages named'.message (stands.queue_holds.wait named'.place) named'.front in
+        let both : Some was.message ≡ Some limited.piece.message = sym was.at ∙ ap (λ (k : ℕ). at_place k queued) (named'.named ∙ limited.of) ∙ (stands.cut.pieces limited.number limited.piece limited.at).at in
+        let same : was.message ≡ limited.piece.message = cc in
+        let may : may_be_abandoned named'.message ≡ true = was.is.limited (ap (λ (m : Message). m.is_limited) same ∙ limited.limited) in
+        ap (λ (b : Bool). b || not (queue_interleaves old.waiting)) may
+
+    -- the newest piece is of that message
+    dropped_limited : (discards : Discards old.waiting last.fragment.stream last.fragment.message_id old.told new.waiting new.told)
         → (n : ℕ) (f : Piece) → at_place n history.log ≡ Some (Some f) → n + 1 ≡ length history.log → f.message.is_limited ≡ true
     dropped_limited discards n f at is_newest =
-        let place = newest_named queued history.log old.waiting last.fragment.stream last.fragment.message_id discards.named stands.queue_holds n f at is_newest in
+        let place = newest_named queued history old.waiting last.fragment.stream last.fragment.message_id discards.named stands.queue_holds stands.numbers (kept_whole discards.named) n f at is_newest in
         let both : Some f.message ≡ Some limited.piece.message = sym (stands.cut.pieces n f at).at ∙ ap (λ (k : ℕ). at_place k queued) (place ∙ limited.of) ∙ (stands.cut.pieces limited.number limited.piece limited.at).at in
         let same : f.message ≡ limited.piece.message = cc in
         ap (λ (m : Message). m.is_limited) same ∙ limited.limited
@@ -60,37 +71,40 @@ drops_rest_ends queued history first acknowledged own now last old new stands na
     go : (dropped : Bool) → DiscardsNamed old.waiting last.fragment.stream last.fragment.message_id old.told dropped new.waiting new.told → EndsDropped now old.queue.reset_begun last old.queue.outstanding drops.outstanding dropped
         → Ends queued history first acknowledged (record old { queue = record old.queue { outstanding = drops.outstanding }; waiting = new.waiting; told = new.told })
     go true discards ends =
+        let whole = kept_whole discards.named in
         record {
           more = None ∷ [];
           none = λ n f at. absurd (let nothing : at_place n [] ≡ Some (Some f) = with_none [] n f at in cc);
           stands = record {
-            queue_holds = discards_hold queued history.log old.waiting new.waiting last.fragment.stream last.fragment.message_id old.told new.told stands.queue_holds discards;
+            queue_holds = discards_hold queued history old.waiting new.waiting last.fragment.stream last.fragment.message_id old.told new.told stands.queue_holds stands.numbers discards whole;
             cut = cut_none queued history.log (dropped_limited discards) stands.cut;
             bears = subst (λ (o : OutstandingState). Bears (with_slot None history) first acknowledged o) (sym ends.grows)
                 (bears_grown history first acknowledged None ends.item old.queue.outstanding stands.bears (ap (λ (f : Fragment). f.payload) ends.is_end.is)
                 (subst (λ (f : Fragment). IsNamedFragment (with_slot None history) (length history.log) f) (sym ends.is_end.is)
-                (named_end history own last.fragment named (end_whole queued history first own old.waiting new.waiting last.fragment old.told new.told stands.queue_holds stands.marks discards named)))
+                (named_end history own last.fragment named
+                (end_whole queued history first own old.waiting new.waiting last.fragment old.told new.told stands.queue_holds stands.cut stands.marks stands.numbers discards whole named)))
                 (λ is. limited_stays None history.log ends.item.fragment (limited_same history.log ends.item.fragment last.fragment (ap (λ (f : Fragment). f.message_id) ends.is_end.is) limited))
                 (subst (λ (b : Bool). Pends history b) (sym ends.is_end.begins_after_reset) stands.pends)
                 (λ plain none. whole_grown history.log acknowledged None ends.item old.queue.outstanding.items stands.bears.count (stands.bears.whole plain none)
                 (λ k item at is_last unended. ap (λ (f : Fragment). f.message_id) ends.is_end.is ∙ tail plain none k item at is_last unended) (λ e. ap (λ (f : Fragment). f.is_end) ends.is_end.is)
                 (λ is unended. (let clash : true ≡ false = sym (ap (λ (f : Fragment). f.is_end) ends.is_end.is) ∙ unended in absurd (cc)))
                 (λ begins. ap (λ (l : List Slot). length l) (stands.pends.none (sym ends.is_end.begins_after_reset ∙ begins) none))));
-            pends = pends_later None history first old.waiting.under_way old.queue.reset_begun stands.marks
+            pends = pends_later None history first old.waiting.streams old.queue.reset_begun stands.marks
                 (λ begun none. (let gone : at_place named.number [] ≡ Some (Some named.piece) = subst (λ (l : List Slot). at_place named.number l ≡ Some (Some named.piece)) (stands.pends.none begun none) named.at in absurd (cc)));
-            marks = subst (λ (u : Option UnderWay). AreMarks (with_slot None history) first u) (sym (ap (λ (w : SendQueueState). w.under_way) discards.left)) (marks_none history first old.waiting.under_way stands.marks);
-            numbers = discards_numbered history old.waiting new.waiting last.fragment.stream last.fragment.message_id old.told new.told stands.numbers discards;
+            marks = marks_none history first old.waiting.streams new.waiting.streams
+                (discards_ways queued history old.waiting new.waiting last.fragment.stream last.fragment.message_id old.told new.told stands.queue_holds stands.numbers discards whole) stands.marks;
+            numbers = discards_numbered queued history old.waiting new.waiting last.fragment.stream last.fragment.message_id old.told new.told stands.queue_holds stands.numbers discards whole;
             kind = ap (λ (o : OutstandingState). o.is_interleaved) ends.grows ∙ stands.kind ∙ sym (ap (λ (w : SendQueueState). w.is_interleaved) discards.left);
           };
         }
     go false discards ends =
         end queued history first acknowledged _
         (record {
-          queue_holds = subst (λ (w : SendQueueState). HoldsQueued queued history.log w.streams w.under_way) (sym discards.1) stands.queue_holds;
+          queue_holds = subst (λ (w : SendQueueState). HoldsQueued queued history.log w.streams) (sym discards.1) stands.queue_holds;
           cut = stands.cut;
           bears = subst (λ (o : OutstandingState). Bears history first acknowledged o) (sym ends) stands.bears;
           pends = stands.pends;
-          marks = subst (λ (w : SendQueueState). AreMarks history first w.under_way) (sym discards.1) stands.marks;
+          marks = subst (λ (w : SendQueueState). AreMarks history first w.streams) (sym discards.1) stands.marks;
           numbers = subst (λ (w : SendQueueState). NumbersMessages history w) (sym discards.1) stands.numbers;
           kind = ap (λ (o : OutstandingState). o.is_interleaved) ends ∙ stands.kind ∙ sym (ap (λ (w : SendQueueState). w.is_interleaved) discards.1);
         })

@@ -92,7 +92,7 @@ prepared_fewer other queue id handed = go (is_open_pause (queue_stream start oth
     go : (b : Bool) → IsHanded (stream_named id (if b then prepared_open other start else start).streams) → IsHanded (stream_named id queue.streams)
     go true handed =
         used_fewer queue other id
-        (changed_fewer other (prepared_stream (dropped_size other start) (count_under_way other start.under_way)) (λ s. refl) (λ s h. absurd (cc)) start.streams id handed)
+        (changed_fewer other (prepared_stream (dropped_size other start) (count_under_way (queue_stream start other))) (λ s. refl) (λ s h. absurd (cc)) start.streams id handed)
     go false handed = used_fewer queue other id handed
 
 pub preparing_handed : (ids : List ℕ) (queue : SendQueueState) → Fewer (prepared_all ids queue).streams queue.streams

@@ -1,9 +1,10 @@
 -- Streams that a flush hands out to be reset.
-use Rattle.std.proofs.Common.{◌≡◌, ◌==◌, ℕ, zero, suc, Bool, true, false, List, [], ◌∷◌, length, map, take, refl, sym, ◌∙◌, ap, inl, inr}
-use Rattle.std.specs.Prelude.{◌⊎◌, Option, None, Some, filter, if◌then◌else◌}
+use Rattle.std.proofs.Common.{◌≡◌, ◌==◌, ℕ, zero, suc, Bool, true, false, ◌<◌, List, [], ◌∷◌, length, map, take, refl, sym, ◌∙◌, ap, arith, subst, inl, inr}
+use Rattle.std.specs.Prelude.{◌⊎◌, ◌&&◌, not, Option, None, Some, is_some, filter, if◌then◌else◌}
+use Rattle.std.proofs.lemmas.Bool.{eq-eqb}
 use Rattle.std.proofs.lemmas.Bool.Decides.{eqb_tells}
 use Rattle.dcsctp_spec.specs.types.declared.sending.UnderWay.{UnderWay}
-use Rattle.dcsctp_spec.specs.queues.OwnResets.{handing_out, ready_streams, is_ready, is_under_way}
+use Rattle.dcsctp_spec.specs.queues.OwnResets.{handing_out, ready_streams, is_ready}
 use Rattle.dcsctp_spec.specs.queues.Retransmission.{RetransmissionState}
 use Rattle.dcsctp_spec.specs.queues.SendQueue.{SendQueueState, stream_changed}
 use Rattle.dcsctp_spec.specs.types.queues.SendStreams.{unused_stream, Stream, stream_at, handed_out, is_pausing}
@@ -14,102 +15,105 @@ use Rattle.dcsctp_delivery_directions.specs.sending.Pieces.{HoldsQueued}
 use Rattle.dcsctp_delivery_directions.specs.sending.Stages.{Bears}
 use Rattle.dcsctp_spec.specs.queues.Incoming.{is_named}
 use Rattle.dcsctp_delivery_directions.specs.sending.Flushes.{IsNamedByReset}
-use Rattle.dcsctp_delivery_directions.proofs.sending.StreamsNamed.{found_mapped}
+use Rattle.dcsctp_delivery_directions.proofs.sending.StreamsNamed.{found_at, found_mapped}
+use Rattle.dcsctp_delivery_directions.proofs.sending.KeptQueues.{one_set}
 use Rattle.dcsctp_delivery_directions.proofs.sending.Pauses.{SamePause}
-use Rattle.dcsctp_delivery_directions.proofs.sending.Streams.{Alike, alike_hold}
-use Rattle.dcsctp_delivery_directions.proofs.sending.Numbers.{NumbersStay, numbers_same, numbers_then, numbers_changed, numbered_stay}
+use Rattle.dcsctp_delivery_directions.proofs.sending.Streams.{Alike, alike_same, alike_twice, alike_hold}
+use Rattle.dcsctp_delivery_directions.proofs.sending.Numbers.{NumbersStay, numbers_same, numbers_then, numbers_if}
+use Rattle.dcsctp_delivery_directions.proofs.sending.Numbered.{numbered_stay}
 
 -- ---- what waits stays
 
 pub changed_alike : (id : ℕ) (streams : List Stream) → Alike streams (stream_changed id handed_out streams)
-changed_alike id streams = record { sizes = sizes streams; ids = ids streams; messages = messages streams }
+changed_alike id streams = one_set handed_out (λ s. refl) (λ s. refl) (λ s. refl) id streams
+
+handing_alike : (ids : List ℕ) (streams : List Stream) → Alike streams (handing_out ids streams)
+handing_alike [] streams = alike_same streams
+handing_alike (id ∷ ids) streams = alike_twice streams (stream_changed id handed_out streams) (handing_out ids (stream_changed id handed_out streams)) (changed_alike id streams) (handing_alike ids (stream_changed id handed_out streams))
+
+pub requesting_alike : (count : ℕ) (begun : Option BegunReset) (queue : SendQueueState) → Alike queue.streams (queue_requesting count begun queue).streams
+requesting_alike count None queue = alike_same queue.streams
+requesting_alike count (Some begun) queue = handing_alike (take count (ready_streams queue)) queue.streams
+
+pub requesting_hold : (queued : List Message) (log : List Slot) (count : ℕ) (begun : Option BegunReset) (queue : SendQueueState) → HoldsQueued queued log queue.streams
+    → HoldsQueued queued log (queue_requesting count begun queue).streams
+requesting_hold queued log count begun queue queue_holds = alike_hold queued log queue.streams (queue_requesting count begun queue).streams (requesting_alike count begun queue) queue_holds
+
+-- ---- a stream with a message under way is none of them
+
+-- The stream of this number at a place is ready.
+record IsReadyAt (streams : List Stream) (id : ℕ) : Type 0 where
+  q : ℕ
+  within : q < length streams
+  is : (stream_at streams q).id ≡ id
+  ready : is_ready (stream_at streams q) ≡ true
+
+ready_at : (streams : List Stream) (id : ℕ) → is_named (map (λ stream. stream.id) (filter is_ready streams)) id ≡ true → IsReadyAt streams id
+ready_at [] id named = absurd (cc)
+ready_at (s ∷ streams) id named = go (is_ready s) refl named (λ rest. later (ready_at streams id rest))
   where
-    one_id : (b : Bool) (s : Stream) → (if b then handed_out s else s).id ≡ s.id
-    one_id true s = refl
-    one_id false s = refl
+    later : IsReadyAt streams id → IsReadyAt (s ∷ streams) id
+    later r = record { q = suc r.q; within = omega (arith, r.within); is = r.is; ready = r.ready }
 
-    one_messages : (b : Bool) (s : Stream) → (if b then handed_out s else s).messages ≡ s.messages
-    one_messages true s = refl
-    one_messages false s = refl
+    go : (b : Bool) → is_ready s ≡ b → is_named (map (λ stream. stream.id) (if b then s ∷ filter is_ready streams else filter is_ready streams)) id ≡ true
+        → (is_named (map (λ stream. stream.id) (filter is_ready streams)) id ≡ true → IsReadyAt (s ∷ streams) id) → IsReadyAt (s ∷ streams) id
+    go true ready named' rest =
+        elim (eqb_tells s.id id) [
+          | inl e ↦ record { q = 0; within = omega arith; is = e.1; ready = ready }
+          | inr e ↦ rest (rw e.0 at named')
+        ]
+    go false ready named' rest = rest named'
 
-    sizes : (l : List Stream) → length (stream_changed id handed_out l) ≡ length l
-    sizes [] = refl
-    sizes (s ∷ l) = ap suc (sizes l)
-
-    ids : (l : List Stream) (q : ℕ) → (stream_at (stream_changed id handed_out l) q).id ≡ (stream_at l q).id
-    ids [] zero = refl
-    ids [] (suc q) = refl
-    ids (s ∷ l) zero = one_id (s.id == id) s
-    ids (s ∷ l) (suc q) = ids l q
-
-    messages : (l : List Stream) (q : ℕ) → (stream_at (stream_changed id handed_out l) q).messages ≡ (stream_at l q).messages
-    messages [] zero = refl
-    messages [] (suc q) = refl
-    messages (s ∷ l) zero = one_messages (s.id == id) s
-    messages (s ∷ l) (suc q) = messages l q
-
-handing_hold : (queued : List Message) (log : List Slot) (u : Option UnderWay) (ids : List ℕ) (streams : List Stream) → HoldsQueued queued log streams u → HoldsQueued queued log (handing_out ids streams) u
-handing_hold queued log u [] streams queue_holds = queue_holds
-handing_hold queued log u (id ∷ ids) streams queue_holds = handing_hold queued log u ids (stream_changed id handed_out streams) (alike_hold queued log u streams (stream_changed id handed_out streams) (changed_alike id streams) queue_holds)
-
-pub requesting_hold : (queued : List Message) (log : List Slot) (count : ℕ) (begun : Option BegunReset) (queue : SendQueueState) → HoldsQueued queued log queue.streams queue.under_way
-    → HoldsQueued queued log (queue_requesting count begun queue).streams (queue_requesting count begun queue).under_way
-requesting_hold queued log count None queue queue_holds = queue_holds
-requesting_hold queued log count (Some begun) queue queue_holds = handing_hold queued log queue.under_way (take count (ready_streams queue)) queue.streams queue_holds
-
--- ---- the stream of the message under way is none of them
-
-pub NoneUnderWay : Option UnderWay → List ℕ → Type 0
-NoneUnderWay u [] = Unit {0}
-NoneUnderWay u (id ∷ ids) = (is_under_way id u ≡ false) × NoneUnderWay u ids
-
-none_of : (u : Option UnderWay) (count : ℕ) (ids : List ℕ) → NoneUnderWay u ids → NoneUnderWay u (take count ids)
-unfolding NoneUnderWay
-none_of u zero ids none = tt
-none_of u (suc count) [] none = tt
-none_of u (suc count) (id ∷ ids) none = (none.0, none_of u count ids none.1)
-
-none_ready : (u : Option UnderWay) (streams : List Stream) → NoneUnderWay u (map (λ stream. stream.id) (filter (is_ready u) streams))
-unfolding NoneUnderWay
-none_ready u [] = tt
-none_ready u (s ∷ streams) = go (is_pausing s.pause) (is_under_way s.id u) refl (none_ready u streams)
+ready_idle : (s : Stream) → is_ready s ≡ true → s.under_way ≡ None
+ready_idle s ready = go (is_pausing s.pause) s.under_way ready
   where
-    go : (a b : Bool) → is_under_way s.id u ≡ b → NoneUnderWay u (map (λ stream. stream.id) (filter (is_ready u) streams))
-        → NoneUnderWay u (map (λ stream. stream.id) (if (if a then (if b then false else true) else false) then s ∷ filter (is_ready u) streams else filter (is_ready u) streams))
-    go true true is rest = rest
-    go true false is rest = (is, rest)
-    go false b is rest = rest
+    go : (b : Bool) (u : Option UnderWay) → (b && not (is_some u)) ≡ true → u ≡ None
+    go b None e = refl
+    go true (Some u) e = absurd (cc)
+    go false (Some u) e = absurd (cc)
 
-pub none_handed : (count : ℕ) (queue : SendQueueState) → NoneUnderWay queue.under_way (take count (ready_streams queue))
-none_handed count queue = none_of queue.under_way count (ready_streams queue) (none_ready queue.under_way queue.streams)
+-- None of these streams has a message under way.
+abbrev pub AreIdle : List Stream → List ℕ → Type 0
+AreIdle streams ids = (id : ℕ) → is_named ids id ≡ true → (stream_named id streams).under_way ≡ None
 
-pub none_named : (u : UnderWay) (ids : List ℕ) → NoneUnderWay (Some u) ids → is_named ids u.stream_id.0 ≡ true → ⊥
-unfolding NoneUnderWay
-none_named u [] none named = absurd (cc)
-none_named u (id ∷ ids) none named =
-    elim (eqb_tells id u.stream_id.0) [
-      | inl e ↦ other (sym e.1)
-      | inr e ↦ none_named u ids none.1 (rw e.0 at named)
+taken_named : (count : ℕ) (ids : List ℕ) (id : ℕ) → is_named (take count ids) id ≡ true → is_named ids id ≡ true
+taken_named zero ids id named = absurd (cc)
+taken_named (suc count) [] id named = absurd (cc)
+taken_named (suc count) (first ∷ ids) id named =
+    elim (eqb_tells first id) [
+      | inl e ↦ rw e.0 refl
+      | inr e ↦ rw e.0 (taken_named count ids id (rw e.0 at named))
     ]
-  where
-    other : u.stream_id.0 ≡ id → ⊥
-    other same = elim (eqb_tells u.stream_id.0 id) [ inl e ↦ (let clash : true ≡ false = sym e.0 ∙ none.0 in absurd (cc)) | inr e ↦ e.1 same ]
+
+pub none_handed : (queued : List Message) (log : List Slot) (count : ℕ) (queue : SendQueueState) → HoldsQueued queued log queue.streams → AreIdle queue.streams (take count (ready_streams queue))
+none_handed queued log count queue queue_holds id named =
+    let r = ready_at queue.streams id (taken_named count (ready_streams queue) id named) in
+    let found = found_at (unused_stream 0 0 0) r.q queue.streams r.within queue_holds.distinct in
+    let same : stream_named id queue.streams ≡ stream_at queue.streams r.q = subst (λ (k : ℕ). stream_named k queue.streams ≡ stream_at queue.streams r.q) r.is found in
+    ap (λ (s : Stream). s.under_way) same ∙ ready_idle (stream_at queue.streams r.q) r.ready
 
 -- messages are numbered as before
-handing_numbers : (u : Option UnderWay) (ids : List ℕ) (streams : List Stream) → NoneUnderWay u ids → NumbersStay u streams (handing_out ids streams)
-unfolding NoneUnderWay
-handing_numbers u [] streams none = numbers_same u streams
-handing_numbers u (id ∷ ids) streams none =
-    numbers_then u streams (stream_changed id handed_out streams) (handing_out ids (stream_changed id handed_out streams))
-    (numbers_changed u id handed_out (λ s. refl) (λ s. record { ordered = refl; unordered = refl; ssn = refl }) (λ v is s here same. absurd (goes_on v is (sym same ∙ here))) streams)
-    (handing_numbers u ids (stream_changed id handed_out streams) none.1)
+handing_one : (id : ℕ) (streams : List Stream) → (stream_named id streams).under_way ≡ None → NumbersStay streams (stream_changed id handed_out streams)
+handing_one id streams idle =
+    numbers_if (λ s. s.under_way ≡ None) id handed_out (λ s. refl) (λ s. record { ordered = refl; unordered = refl; ssn = refl })
+    (λ s none. record { under_way = refl; front = λ some. refl; kept = λ some e. absurd (let clash : false ≡ true = sym (ap is_some none) ∙ some in cc) }) streams idle
+
+handing_numbers : (ids : List ℕ) (streams : List Stream) → AreIdle streams ids → NumbersStay streams (handing_out ids streams)
+handing_numbers [] streams idle = numbers_same streams
+handing_numbers (id ∷ ids) streams idle =
+    let first = handing_one id streams (idle id (first_named id ids)) in
+    numbers_then streams (stream_changed id handed_out streams) (handing_out ids (stream_changed id handed_out streams)) first
+    (handing_numbers ids (stream_changed id handed_out streams) (λ k named. (first.fronts k).under_way ∙ idle k (later_named id ids k named)))
   where
-    goes_on : (v : UnderWay) → u ≡ Some v → id ≡ v.stream_id.0 → ⊥
-    goes_on v is same =
-        elim (eqb_tells v.stream_id.0 id) [
-          | inl e ↦ (let clash : true ≡ false = sym e.0 ∙ ap (is_under_way id) (sym is) ∙ none.0 in absurd (cc))
-          | inr e ↦ e.1 (sym same)
-        ]
+    first_named : (id : ℕ) (ids : List ℕ) → is_named (id ∷ ids) id ≡ true
+    first_named id ids = rw (eq-eqb id id refl) refl
+
+    later_named : (id : ℕ) (ids : List ℕ) (k : ℕ) → is_named ids k ≡ true → is_named (id ∷ ids) k ≡ true
+    later_named id ids k named = elim (eqb_tells id k) [ inl e ↦ rw e.0 refl | inr e ↦ rw e.0 named ]
+
+pub requesting_stay : (queued : List Message) (log : List Slot) (count : ℕ) (begun : Option BegunReset) (queue : SendQueueState) → HoldsQueued queued log queue.streams → NumbersStay queue.streams (queue_requesting count begun queue).streams
+requesting_stay queued log count None queue queue_holds = numbers_same queue.streams
+requesting_stay queued log count (Some begun) queue queue_holds = handing_numbers (take count (ready_streams queue)) queue.streams (none_handed queued log count queue queue_holds)
 
 pub requesting_kind : (count : ℕ) (begun : Option BegunReset) (queue : SendQueueState) → (queue_requesting count begun queue).is_interleaved ≡ queue.is_interleaved
 requesting_kind count None queue = refl
@@ -119,11 +123,11 @@ pub begun_kind : (begun : Option BegunReset) (state : RetransmissionState) → (
 begun_kind None state = refl
 begun_kind (Some begun) state = refl
 
-pub requesting_numbered : (history : History) (count : ℕ) (begun : Option BegunReset) (queue : SendQueueState) → NumbersMessages history queue → NumbersMessages history (queue_requesting count begun queue)
-requesting_numbered history count None queue numbers = numbers
-requesting_numbered history count (Some begun) queue numbers =
-    numbered_stay history queue (queue_requesting count (Some begun) queue) refl refl
-    (handing_numbers queue.under_way (take count (ready_streams queue)) queue.streams (none_handed count queue)) numbers
+pub requesting_numbered : (queued : List Message) (history : History) (count : ℕ) (begun : Option BegunReset) (queue : SendQueueState) → HoldsQueued queued history.log queue.streams → NumbersMessages history queue
+    → NumbersMessages history (queue_requesting count begun queue)
+requesting_numbered queued history count None queue queue_holds numbers = numbers
+requesting_numbered queued history count (Some begun) queue queue_holds numbers =
+    numbered_stay history queue (queue_requesting count (Some begun) queue) refl refl refl (requesting_stay queued history.log count (Some begun) queue queue_holds) numbers
 
 pub begun_bears : (history : History) (first acknowledged : ℕ) (begun : Option BegunReset) (state : RetransmissionState) → Bears history first acknowledged state.outstanding → Bears history first acknowledged (retransmission_begun begun state).outstanding
 begun_bears history first acknowledged None state b = b

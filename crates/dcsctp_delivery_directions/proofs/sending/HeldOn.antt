@@ -7,7 +7,6 @@ use Rattle.dcsctp_spec.specs.Packet.{Plain, Emission}
 use Rattle.dcsctp_spec.specs.association.Choices.{plain_contents}
 use Rattle.dcsctp_spec.specs.types.declared.progress.Change.{Change}
 use Rattle.dcsctp_spec.specs.types.declared.progress.Change.TheVariants.{SendAgain, Abandon}
-use Rattle.dcsctp_spec.specs.types.declared.sending.UnderWay.{UnderWay}
 use Rattle.dcsctp_spec.specs.types.queues.SendStreams.{Waiting, Stream, stream_at, front_of, unused_stream, without_front}
 use Rattle.dcsctp_spec.specs.endpoint.Event.{Event}
 use Rattle.dcsctp_spec.specs.endpoint.Endpoint.{Endpoint}
@@ -33,10 +32,9 @@ use Rattle.dcsctp_delivery_directions.proofs.sending.Limits.{never_due}
 use Rattle.dcsctp_delivery_directions.proofs.sending.Losing.{items_in, requesting_messages, begun_items, queued_of, flies_sent, sent_more}
 use Rattle.dcsctp_delivery_directions.proofs.sending.Packets.{out_below}
 use Rattle.dcsctp_delivery_directions.proofs.sending.Places.{at_cases}
-use Rattle.dcsctp_delivery_directions.proofs.sending.Produced.{within_streams}
 use Rattle.dcsctp_delivery_directions.proofs.sending.Stages.{changed_at, at_last}
-use Rattle.dcsctp_delivery_directions.proofs.sending.Streams.{Alike, reduced_alike, rest_shorter}
-use Rattle.dcsctp_delivery_directions.proofs.sending.WhatWaits.{front_has, stays_fresh, produced_waits, produced_waited, shorter_waited}
+use Rattle.dcsctp_delivery_directions.proofs.sending.Streams.{Alike, reduced_alike, rest_shorter, within_streams}
+use Rattle.dcsctp_delivery_directions.proofs.sending.WhatWaits.{front_has, never_old, produced_waits, produced_waited, shorter_waited}
 use Rattle.std.proofs.lemmas.List.{get_or-set_same, get_or-set_other}
 
 -- The front of a stream leaves: each other message waits still.
@@ -145,7 +143,7 @@ module _ (P : ℕ → Type 0) where
       held_then old.streams items queue.streams items (without_rest place 0 message queue).streams items earlier
       (one_dropped now place 0 message queue items front
       (λ p. (let its = earlier.free.wait place message (front_has (stream_at queue.streams place).messages message front) p in
-      let clash : true ≡ false = sym expired ∙ stays_fresh now message its.0 in absurd (cc))) earlier.free)
+      let clash : true ≡ false = sym expired ∙ never_old now message (stream_at queue.streams place) its.0 in absurd (cc))) earlier.free)
 
   -- ---- the steps
 
@@ -408,9 +406,9 @@ placed_free id queued place other message are p same at =
     let one : p.message ≡ message = cc in
     unlimited_on_at id queued other message are at (ap (λ (m : Message). m.stream) (sym one) ∙ p.on)
 
-free_held : (id : ℕ) (queued : List Message) (history : History) (first acknowledged : ℕ) (streams : List Stream) (u : Option UnderWay) (transfer : Option Transfer) → AreUnlimitedOn id queued → IsLogOfPieces queued history.log → HoldsQueued queued history.log streams u
+free_held : (id : ℕ) (queued : List Message) (history : History) (first acknowledged : ℕ) (streams : List Stream) (transfer : Option Transfer) → AreUnlimitedOn id queued → IsLogOfPieces queued history.log → HoldsQueued queued history.log streams
     → InFlight history first acknowledged transfer → AreFreeOn (IsPlacedOn id queued) streams (items_in transfer)
-free_held id queued history first acknowledged streams u transfer are cut queue_holds flight =
+free_held id queued history first acknowledged streams transfer are cut queue_holds flight =
     record {
       wait = λ q w has p. (
           let was = queued_of queued (stream_at streams q).id (stream_at streams q).messages w (queue_holds.wait q) has in
@@ -428,4 +426,4 @@ free_held id queued history first acknowledged streams u transfer are cut queue_
     flies (Some t) bears k item at p = (let n = bears.named k item at in n.limits (placed_free id queued item.fragment.message_id n.piece.place n.piece.message are p n.of (cut.pieces n.number n.piece n.at).at))
 
 pub free_on_stream : (id : ℕ) (queued : List Message) (history : History) (first acknowledged : ℕ) (below : EndpointQueues) → AreUnlimitedOn id queued → QueuesFollowLog queued history first acknowledged below → FreeQueuesOn (IsPlacedOn id queued) below
-free_on_stream id queued history first acknowledged below are stands = free_held id queued history first acknowledged below.queue.streams below.queue.under_way below.transfer are stands.cut stands.queue_holds stands.flight
+free_on_stream id queued history first acknowledged below are stands = free_held id queued history first acknowledged below.queue.streams below.transfer are stands.cut stands.queue_holds stands.flight

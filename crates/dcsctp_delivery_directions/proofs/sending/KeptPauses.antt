@@ -1,6 +1,6 @@
 -- What relates streams before and after, while messages leave the send queue: each stream that
 -- changes is paused as it was.
-use Rattle.std.proofs.Common.{◌≡◌, ◌==◌, ℕ, Bool, true, false, ◌-◌, List, [], ◌++◌, length, refl, sym, ap, subst, inl, inr}
+use Rattle.std.proofs.Common.{◌≡◌, ℕ, Bool, true, false, ◌-◌, List, [], ◌++◌, length, refl, sym, ap, subst, inl, inr}
 use Rattle.std.specs.Prelude.{Option, slice_set, if◌then◌else◌}
 use Rattle.dcsctp_spec.specs.Packet.{Plain, Emission}
 use Rattle.dcsctp_spec.specs.association.Choices.{plain_contents}
@@ -9,15 +9,16 @@ use Rattle.dcsctp_spec.specs.endpoint.Endpoint.{Endpoint}
 use Rattle.dcsctp_spec.specs.endpoint.Event.{Event}
 use Rattle.dcsctp_spec.specs.endpoint.FlushOutcomes.{Ask, Gives, room_of_draft, stage_of, may_forward, Answer, filled_draft, GivesUpThenForwards, FillsIfAllowed, forward_made}
 use Rattle.dcsctp_spec.specs.types.declared.sending.UnderWay.{UnderWay}
-use Rattle.dcsctp_spec.specs.types.queues.SendStreams.{Waiting, Stream, without_front, stream_counted, served_stream, stream_at}
+use Rattle.dcsctp_spec.specs.types.queues.SendStreams.{Waiting, Stream, without_front, stream_with_progress, stream_at}
 use Rattle.dcsctp_spec.specs.queues.Abandoning.{GivesUpFirst}
 use Rattle.dcsctp_spec.specs.queues.SendQueue.{SendQueueState}
-use Rattle.dcsctp_spec.specs.queues.Sending.{Fragment, Drops, none as drops_none, more as drops_more, reduced_queue, next_turn, begun_message_counted as taking_turn, begun_numbered, without_rest, after_part, after_last, queue_after_producing, is_last, TakesFragment, DiscardsNamed}
+use Rattle.dcsctp_spec.specs.queues.Sending.{Fragment, Drops, none as drops_none, more as drops_more, reduced_queue, fragment_counted, progress_after, without_rest, after_part, after_last, queue_after_producing, is_last, TakesFragment, DiscardsNamed}
 use Rattle.dcsctp_spec.specs.queues.Filling.{Stage, ClosesMessage, GivesUpItem, payload_room, StepAgain, StepNew, StageSteps, none as steps_none, more as steps_more, resent_packet_counted, FillsPacket}
 use Rattle.dcsctp_spec.specs.queues.Items.{Item}
 use Rattle.dcsctp_spec.specs.queues.Outstanding.{header}
 use Rattle.dcsctp_spec.specs.queues.Retransmission.{RetransmissionState}
 use Rattle.dcsctp_spec.specs.queues.Transfer.{Transfer, may_give}
+use Rattle.dcsctp_delivery_directions.proofs.sending.CountedFragments.{FollowsCounts, by_leaving}
 
 -- It relates streams of which one at most has changed, and is paused as it was.
 pub record FollowsPauses (Relates : List Stream → List Stream → Type 0) : Type 0 where
@@ -44,39 +45,20 @@ module _ (Relates : List Stream → List Stream → Type 0) (follows : FollowsPa
   by_dropped now old events new (drops_more events' queue place message drops next front expired) =
       follows.both old.streams queue.streams (without_rest place 0 message queue).streams (by_dropped now old events' queue drops) (by_rest place 0 message queue)
 
-  by_numbered : (place : ℕ) (message : Waiting) (under_way : UnderWay) (queue : SendQueueState) → Relates queue.streams (begun_numbered place message under_way queue).streams
-  by_numbered place message under_way queue = go (under_way.sent == 0)
-    where
-      its_id : (a b : Bool) (s : Stream) → (stream_counted a b s).id ≡ s.id
-      its_id true true s = refl
-      its_id true false s = refl
-      its_id false true s = refl
-      its_id false false s = refl
-
-      its_pause : (a b : Bool) (s : Stream) → (stream_counted a b s).pause ≡ s.pause
-      its_pause true true s = refl
-      its_pause true false s = refl
-      its_pause false true s = refl
-      its_pause false false s = refl
-
-      go : (b : Bool) → Relates queue.streams (if b then taking_turn place message.is_unordered queue else queue).streams
-      go true =
-          follows.set place (served_stream (next_turn queue) (stream_counted queue.is_interleaved message.is_unordered (stream_at queue.streams place))) queue.streams
-          (its_id queue.is_interleaved message.is_unordered (stream_at queue.streams place)) (its_pause queue.is_interleaved message.is_unordered (stream_at queue.streams place))
-      go false = follows.same queue.streams
+  by_counts : FollowsCounts Relates
+  by_counts = record { same = follows.same; both = follows.both; set = λ place new streams is. follows.set place new streams is.id is.pause }
 
   pub by_part : (place max : ℕ) (message : Waiting) (under_way : UnderWay) (queue : SendQueueState) → Relates queue.streams (after_part place max message under_way queue).streams
   by_part place max message under_way queue =
-      follows.both queue.streams (reduced_queue place max queue).streams (after_part place max message under_way queue).streams (by_reduced place max queue)
-      (by_numbered place message under_way (reduced_queue place max queue))
+      let counted : SendQueueState = fragment_counted place max message under_way (reduced_queue place max queue) in
+      follows.both queue.streams counted.streams (after_part place max message under_way queue).streams (by_leaving Relates by_counts place max message under_way queue)
+      (follows.set place (stream_with_progress (progress_after max under_way) (stream_at counted.streams place)) counted.streams refl refl)
 
   by_last : (place : ℕ) (message : Waiting) (under_way : UnderWay) (queue : SendQueueState) → Relates queue.streams (after_last place message under_way queue).streams
   by_last place message under_way queue =
-      let less : SendQueueState = reduced_queue place (length message.payload - under_way.sent) queue in
-      let numbered : SendQueueState = begun_numbered place message under_way less in
-      follows.both queue.streams numbered.streams (after_last place message under_way queue).streams
-      (follows.both queue.streams less.streams numbered.streams (by_reduced place (length message.payload - under_way.sent) queue) (by_numbered place message under_way less))
-      (by_without place numbered.streams)
+      let size : ℕ = length message.payload - under_way.sent in
+      let counted : SendQueueState = fragment_counted place size message under_way (reduced_queue place size queue) in
+      follows.both queue.streams counted.streams (after_last place message under_way queue).streams (by_leaving Relates by_counts place size message under_way queue) (by_without place counted.streams)
 
   pub by_produced : (place max : ℕ) (message : Waiting) (under_way : UnderWay) (queue : SendQueueState) → Relates queue.streams (queue_after_producing place max message under_way queue).streams
   by_produced place max message under_way queue = go (is_last max message under_way)

@@ -29,6 +29,16 @@ no_limits now options = go (λ lifetime. min (now + as_nanos lifetime) max_nanos
     go ends None (Some most) free = absurd (cc)
     go ends (Some lifetime) most free = absurd (cc)
 
+pub are_limited : (now : ℕ) (options : SendOptions) → has_limits options ≡ true
+    → (is_some options.max_retransmissions || is_some (option_map (λ lifetime. min (now + as_nanos lifetime) max_nanos) options.lifetime)) ≡ true
+are_limited now options = go (λ lifetime. min (now + as_nanos lifetime) max_nanos) options.lifetime options.max_retransmissions
+  where
+    go : {A : Type 0} (ends : A → ℕ) (lifetime : Option A) (most : Option ℕ) → (is_some lifetime || is_some most) ≡ true → (is_some most || is_some (option_map ends lifetime)) ≡ true
+    go ends None None limited = absurd (cc)
+    go ends None (Some most) limited = refl
+    go ends (Some lifetime) None limited = refl
+    go ends (Some lifetime) (Some most) limited = refl
+
 -- ---- what is abandoned
 
 -- The change abandons nothing.

@@ -3,7 +3,6 @@ use Rattle.std.proofs.Common.{◌≡◌, ℕ, zero, suc, Bool, true, false, List
 use Rattle.std.specs.Prelude.{Option, None, Some, slice_get}
 use Rattle.dcsctp_spec.specs.Packet.{Plain, Emission}
 use Rattle.dcsctp_spec.specs.association.Choices.{plain_contents}
-use Rattle.dcsctp_spec.specs.types.declared.sending.UnderWay.{UnderWay}
 use Rattle.dcsctp_spec.specs.types.queues.SendStreams.{Waiting, Stream, stream_at, handed_out}
 use Rattle.dcsctp_spec.specs.queues.Filling.{Stage}
 use Rattle.dcsctp_spec.specs.queues.Items.{Item}
@@ -131,9 +130,9 @@ queued_of queued id [] w are has = absurd has
 queued_of queued id (v ∷ messages) w are has = elim has [ inl e ↦ subst (λ (x : Waiting). WaitingWasQueued queued id x) (sym e) are.0 | inr t ↦ queued_of queued id messages w are.1 t ]
 
 -- Nothing has limits where no message that was queued has.
-pub free_of : (queued : List Message) (history : History) (first acknowledged : ℕ) (streams : List Stream) (u : Option UnderWay) (transfer : Option Transfer) → AreUnlimited queued → IsLogOfPieces queued history.log → HoldsQueued queued history.log streams u
+pub free_of : (queued : List Message) (history : History) (first acknowledged : ℕ) (streams : List Stream) (transfer : Option Transfer) → AreUnlimited queued → IsLogOfPieces queued history.log → HoldsQueued queued history.log streams
     → InFlight history first acknowledged transfer → AreFree streams (items_in transfer)
-free_of queued history first acknowledged streams u transfer are cut queue_holds flight =
+free_of queued history first acknowledged streams transfer are cut queue_holds flight =
     record {
       wait = λ q w has. (
           let was = queued_of queued (stream_at streams q).id (stream_at streams q).messages w (queue_holds.wait q) has in
@@ -151,7 +150,7 @@ free_of queued history first acknowledged streams u transfer are cut queue_holds
     flies (Some t) bears k item at = (let n = bears.named k item at in n.limits (unlimited_at queued n.piece.place n.piece.message are (cut.pieces n.number n.piece n.at).at))
 
 pub free_below : (queued : List Message) (history : History) (first acknowledged : ℕ) (below : EndpointQueues) → AreUnlimited queued → QueuesFollowLog queued history first acknowledged below → FreeQueues below
-free_below queued history first acknowledged below are stands = free_of queued history first acknowledged below.queue.streams below.queue.under_way below.transfer are stands.cut stands.queue_holds stands.flight
+free_below queued history first acknowledged below are stands = free_of queued history first acknowledged below.queue.streams below.transfer are stands.cut stands.queue_holds stands.flight
 
 -- What is in flight is in the log.
 pub flies_sent : (history : History) (first acknowledged place : ℕ) (transfer : Option Transfer) → InFlight history first acknowledged transfer → IsInFlight (items_in transfer) place → WasSentOf history.log place

@@ -85,20 +85,21 @@ front_other : (place : ℕ) (messages : List Waiting) (w : Waiting) → NoneName
 front_other place [] w others is = absurd (cc)
 front_other place (v ∷ messages) w others is = let same : v ≡ w = cc in subst (λ (x : Waiting). x.message_id ≢ place) same others.0
 
-going_marked : (queued : List Message) (place : ℕ) (streams : List Stream) (u : Option UnderWay) → WaitsNoLonger place streams → Going queued [] streams u → Going (message_marked_spent place queued) [] streams u
-going_marked queued place streams None others g = tt
-going_marked queued place streams (Some u) others g =
-    let other = front_other place (stream_at streams g.there.q).messages g.there.waiting (others g.there.q) g.there.front in
-    let named = g.front g.there.q g.there.waiting g.there.is g.there.front in
+going_marked : (queued : List Message) (place : ℕ) (stream : Stream) (u : Option UnderWay) → NoneNamed place stream.messages → Going queued [] stream u → Going (message_marked_spent place queued) [] stream u
+going_marked queued place stream None others g = tt
+going_marked queued place stream (Some u) others g =
+    let other = front_other place stream.messages g.waiting others g.front in
     record {
       place = g.place;
       message = g.message;
-      at = marked_other place g.place queued (λ is. other (named ∙ is)) ∙ g.at;
+      at = marked_other place g.place queued (λ is. other (g.named ∙ is)) ∙ g.at;
       unfinished = g.unfinished;
       begun = g.begun;
-      there = g.there;
-      came = inl refl;
+      is = g.is;
+      waiting = g.waiting;
       front = g.front;
+      named = g.named;
+      came = inl refl;
     }
 
 pub marking_hold : (queued : List Message) (place : ℕ) (queue : SendQueueState) → WaitsNoLonger place queue.streams → QueueWaits queued queue → QueueWaits (message_marked_spent place queued) queue
@@ -113,7 +114,7 @@ marking_hold queued place queue others waits =
           beyond = λ q n f at of. absurd (cc);
           distinct = queues.queue_holds.distinct;
           small = queues.queue_holds.small;
-          going = going_marked queued place queue.streams queue.under_way others queues.queue_holds.going;
+          going = λ q. going_marked queued place (stream_at queue.streams q) (stream_at queue.streams q).under_way (others q) (queues.queue_holds.going q);
           room = (let room = queues.queue_holds.room in let same = marked_total place queued in record { whole = omega (arith, room.whole, same); count = omega (arith, room.count, same) });
         };
         next = queues.next ∙ sym (marked_length place queued);

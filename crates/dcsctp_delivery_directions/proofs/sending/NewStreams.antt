@@ -1,15 +1,16 @@
 -- A stream that is used for the first time.
 use Rattle.std.proofs.Common.{◌≡◌, ◌≢◌, ◌==◌, ℕ, zero, suc, Bool, true, false, ◌<◌, ◌+◌, ◌≤◌, ◌^◌, List, [], ◌∷◌, length, drop, refl, sym, ◌∙◌, ap, arith, subst, inl, inr}
-use Rattle.std.specs.Prelude.{◌⊎◌, ◌||◌, Option, None, Some, nat_lt, if◌then◌else◌}
+use Rattle.std.specs.Prelude.{◌⊎◌, ◌||◌, Option, None, Some, is_some, nat_lt, if◌then◌else◌}
 use Rattle.std.proofs.lemmas.Bool.Decides.{eqb_tells, leb_tells}
 use Rattle.dcsctp_spec.specs.types.declared.sending.UnderWay.{UnderWay}
-use Rattle.dcsctp_spec.specs.types.queues.SendStreams.{Waiting, Stream, front_of, stream_at, unused_stream}
-use Rattle.dcsctp_spec.specs.queues.SendQueue.{SendQueueState, with_stream, is_used, used_streams}
+use Rattle.dcsctp_spec.specs.types.queues.SendStreams.{Waiting, Stream, progress_size, stream_at, unused_stream}
+use Rattle.dcsctp_spec.specs.queues.SendQueue.{SendQueueState, with_stream, is_used, used_streams, under_way_size}
 use Rattle.dcsctp_delivery_directions.specs.sending.Places.{at_place}
 use Rattle.dcsctp_delivery_directions.specs.sending.Log.{Message, Piece, Slot}
 use Rattle.dcsctp_delivery_directions.specs.sending.Pieces.{AllQueued, AllBeyond, Ascend, unbegun, Going, HoldsQueued}
 use Rattle.dcsctp_delivery_directions.specs.sending.Weights.{weight}
-use Rattle.dcsctp_delivery_directions.proofs.sending.Produced.{none_beyond}
+use Rattle.dcsctp_delivery_directions.proofs.sending.Streams.{none_beyond}
+use Rattle.dcsctp_delivery_directions.proofs.sending.StreamWeights.{size_first}
 use Rattle.dcsctp_delivery_directions.proofs.sending.Weights.{weight_inserted}
 
 -- ---- a stream that is used for the first time
@@ -81,65 +82,37 @@ not_there id (s ∷ streams) none zero below =
     ]
 not_there id (s ∷ streams) none (suc q) below = not_there id streams (or_false (s.id == id) (is_used id streams) none).1 q (omega arith)
 
-pub empty_unbegun : (u : Option UnderWay) (place : ℕ) (s : Stream) → s.messages ≡ [] → AllBeyond place (unbegun u s)
-empty_unbegun None place s none = none_beyond place s.messages none
-empty_unbegun (Some u) place s none = go (s.id == u.stream_id.0)
+pub empty_unbegun : (place : ℕ) (s : Stream) → s.messages ≡ [] → AllBeyond place (unbegun s)
+empty_unbegun place s none = go (is_some s.under_way)
   where
-    go : (b : Bool) → AllBeyond place (if b then drop 1 s.messages else s.messages)
+    go : (b : Bool) → AllBeyond place (drop (if b then 1 else 0) s.messages)
     go true = subst (λ (l : List Waiting). AllBeyond place (drop 1 l)) (sym none) tt
     go false = none_beyond place s.messages none
 
--- a new stream without messages
-module _ (queued : List Message) (log : List Slot) (s : Stream) (old new : List Stream) (i : Inserted s old new) (none : s.messages ≡ []) (fresh : (q : ℕ) → q < length old → (stream_at old q).id ≢ s.id) where
-  inserted_going : (u : Option UnderWay) → Going queued log old u → Going queued log new u
-  inserted_going None g = tt
-  inserted_going (Some u) g =
-      record {
-        place = g.place;
-        message = g.message;
-        at = g.at;
-        unfinished = g.unfinished;
-        begun = g.begun;
-        there = elim (leb_tells (suc g.there.q) i.place) [
-          | inl e ↦
-              record {
-                q = g.there.q;
-                within = omega (arith, g.there.within, i.sizes);
-                is = ap (λ (t : Stream). t.id) (i.before g.there.q e.1) ∙ g.there.is;
-                waiting = g.there.waiting;
-                front = ap (λ (t : Stream). front_of t.messages) (i.before g.there.q e.1) ∙ g.there.front;
-              }
-          | inr e ↦
-              (let up : i.place ≤ g.there.q = (let lt : i.place < suc g.there.q = e.1 in omega arith) in
-              record {
-                q = suc g.there.q;
-                within = omega (arith, g.there.within, i.sizes);
-                is = ap (λ (t : Stream). t.id) (i.behind g.there.q up) ∙ g.there.is;
-                waiting = g.there.waiting;
-                front = ap (λ (t : Stream). front_of t.messages) (i.behind g.there.q up) ∙ g.there.front;
-              })
-        ];
-        came = g.came;
-        front = front;
-      }
-    where
-      front : (q : ℕ) (w : Waiting) → (stream_at new q).id ≡ u.stream_id.0 → front_of (stream_at new q).messages ≡ Some w → w.message_id ≡ g.place
-      front q w id is =
-          elim (stands_at s old new i q) [
-            | new_one at e ↦ (let nothing : ◌≡◌ {A = Option Waiting} None (Some w) = sym (ap front_of (ap (λ (t : Stream). t.messages) e ∙ none)) ∙ is in absurd (cc))
-            | old_one k e at ↦ g.front k w (ap (λ (t : Stream). t.id) (sym e) ∙ id) (ap (λ (t : Stream). front_of t.messages) (sym e) ∙ is)
-          ]
+-- what was sent of messages under way
+pub size_inserted : (s : Stream) (streams : List Stream) → s.under_way ≡ None → under_way_size (with_stream s streams) ≡ under_way_size streams
+size_inserted s [] idle = (let light : progress_size s.under_way ≡ 0 = ap progress_size idle in let one = size_first s [] in omega (arith, light, one))
+size_inserted s (first ∷ streams) idle = go (nat_lt first.id s.id) (size_inserted s streams idle)
+  where
+    light : progress_size s.under_way ≡ 0
+    light = ap progress_size idle
 
-  inserted_hold : (u : Option UnderWay) → s.id < 2 ^ 16 → weight new ≡ weight old → HoldsQueued queued log old u → HoldsQueued queued log new u
-  inserted_hold u fits same_weight queue_holds =
+    go : (b : Bool) → under_way_size (with_stream s streams) ≡ under_way_size streams → under_way_size (if b then first ∷ with_stream s streams else s ∷ first ∷ streams) ≡ under_way_size (first ∷ streams)
+    go true rest = (let before = size_first first streams in let after = size_first first (with_stream s streams) in omega (arith, rest, before, after))
+    go false rest = (let after = size_first s (first ∷ streams) in omega (arith, light, after))
+
+-- a new stream without messages
+module _ (queued : List Message) (log : List Slot) (s : Stream) (old new : List Stream) (i : Inserted s old new) (none : s.messages ≡ []) (idle : s.under_way ≡ None) (fresh : (q : ℕ) → q < length old → (stream_at old q).id ≢ s.id) where
+  inserted_hold : s.id < 2 ^ 16 → weight new ≡ weight old → under_way_size new ≡ under_way_size old → HoldsQueued queued log old → HoldsQueued queued log new
+  inserted_hold fits same_weight same_size queue_holds =
       record {
         wait = wait;
         ascend = ascend;
         beyond = beyond;
         distinct = distinct;
         small = small;
-        going = inserted_going u queue_holds.going;
-        room = (let room = queue_holds.room in record { whole = omega (arith, room.whole, same_weight); count = omega (arith, room.count, same_weight) });
+        going = going;
+        room = (let room = queue_holds.room in record { whole = omega (arith, room.whole, same_weight); count = omega (arith, room.count, same_weight, same_size) });
       }
     where
       wait : (q : ℕ) → AllQueued queued (stream_at new q).id (stream_at new q).messages
@@ -156,11 +129,18 @@ module _ (queued : List Message) (log : List Slot) (s : Stream) (old new : List 
             | old_one k e at ↦ subst (λ (t : Stream). Ascend t.messages) (sym e) (queue_holds.ascend k)
           ]
 
-      beyond : (q n : ℕ) (f : Piece) → at_place n log ≡ Some (Some f) → f.message.stream ≡ (stream_at new q).id → AllBeyond f.place (unbegun u (stream_at new q))
+      beyond : (q n : ℕ) (f : Piece) → at_place n log ≡ Some (Some f) → f.message.stream ≡ (stream_at new q).id → AllBeyond f.place (unbegun (stream_at new q))
       beyond q n f at of =
           elim (stands_at s old new i q) [
-            | new_one here e ↦ empty_unbegun u f.place (stream_at new q) (ap (λ (t : Stream). t.messages) e ∙ none)
-            | old_one k e here ↦ subst (λ (t : Stream). AllBeyond f.place (unbegun u t)) (sym e) (queue_holds.beyond k n f at (of ∙ ap (λ (t : Stream). t.id) e))
+            | new_one here e ↦ empty_unbegun f.place (stream_at new q) (ap (λ (t : Stream). t.messages) e ∙ none)
+            | old_one k e here ↦ subst (λ (t : Stream). AllBeyond f.place (unbegun t)) (sym e) (queue_holds.beyond k n f at (of ∙ ap (λ (t : Stream). t.id) e))
+          ]
+
+      going : (q : ℕ) → Going queued log (stream_at new q) (stream_at new q).under_way
+      going q =
+          elim (stands_at s old new i q) [
+            | new_one at e ↦ subst (λ (u : Option UnderWay). Going queued log (stream_at new q) u) (sym (ap (λ (t : Stream). t.under_way) e ∙ idle)) tt
+            | old_one k e at ↦ subst (λ (t : Stream). Going queued log t t.under_way) (sym e) (queue_holds.going k)
           ]
 
       small : (q : ℕ) → (stream_at new q).id < 2 ^ 16
@@ -198,12 +178,13 @@ module _ (queued : List Message) (log : List Slot) (s : Stream) (old new : List 
                 | inr e ↦ elim at' [ inl e' ↦ absurd (omega (arith, e.0, e.1, e'.0, e'.1, both)) | inr e' ↦ omega (arith, e.1, e'.1, both) ]
               ]
 
-pub used_hold : (queued : List Message) (log : List Slot) (queue : SendQueueState) (id : ℕ) → id < 2 ^ 16 → HoldsQueued queued log queue.streams queue.under_way → HoldsQueued queued log (used_streams queue id) queue.under_way
+pub used_hold : (queued : List Message) (log : List Slot) (queue : SendQueueState) (id : ℕ) → id < 2 ^ 16 → HoldsQueued queued log queue.streams → HoldsQueued queued log (used_streams queue id)
 used_hold queued log queue id fits queue_holds = go (is_used id queue.streams) refl
   where
     s : Stream
     s = unused_stream id queue.default_priority queue.default_threshold
 
-    go : (b : Bool) → is_used id queue.streams ≡ b → HoldsQueued queued log (if b then queue.streams else with_stream s queue.streams) queue.under_way
+    go : (b : Bool) → is_used id queue.streams ≡ b → HoldsQueued queued log (if b then queue.streams else with_stream s queue.streams)
     go true is = queue_holds
-    go false is = inserted_hold queued log s queue.streams (with_stream s queue.streams) (inserted s queue.streams) refl (not_there id queue.streams is) queue.under_way fits (weight_inserted s queue.streams refl) queue_holds
+    go false is =
+        inserted_hold queued log s queue.streams (with_stream s queue.streams) (inserted s queue.streams) refl refl (not_there id queue.streams is) fits (weight_inserted s queue.streams refl) (size_inserted s queue.streams refl) queue_holds

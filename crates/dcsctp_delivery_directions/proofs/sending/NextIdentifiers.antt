@@ -9,9 +9,9 @@ use Rattle.dcsctp_spec.specs.queues.Filling.{Stage, ClosesMessage, GivesUpItem, 
 use Rattle.dcsctp_spec.specs.queues.Abandoning.{GivesUpFirst}
 use Rattle.dcsctp_spec.specs.queues.Items.{Item}
 use Rattle.dcsctp_spec.specs.queues.Outstanding.{header}
-use Rattle.dcsctp_spec.specs.queues.SendQueue.{SendQueueState}
-use Rattle.dcsctp_spec.specs.queues.Sending.{Fragment, Drops, none as drops_none, more as drops_more, begun_message_counted as taking_turn, begun_numbered, reduced_queue, after_part, after_last, queue_after_producing, is_last, TakesFragment, DiscardsNamed}
-use Rattle.dcsctp_spec.specs.types.queues.SendStreams.{Waiting}
+use Rattle.dcsctp_spec.specs.queues.SendQueue.{SendQueueState, queue_interleaves}
+use Rattle.dcsctp_spec.specs.queues.Sending.{Fragment, Drops, none as drops_none, more as drops_more, reduced_queue, queue_numbered, queue_served, queue_with_turn_bytes, turn_counted, fragment_counted, after_part, after_last, queue_after_producing, is_last, TakesFragment, DiscardsNamed}
+use Rattle.dcsctp_spec.specs.types.queues.SendStreams.{Waiting, fills_turn, stream_at}
 use Rattle.dcsctp_spec.specs.queues.Transfer.{Transfer, EndpointQueues, is_idle}
 use Rattle.dcsctp_spec.specs.endpoint.BegunResets.{BegunReset, queue_requesting}
 use Rattle.dcsctp_spec.specs.endpoint.FlushOutcomes.{filling_event, Answer, answer_contents, filled_draft, asked_outcome, next_draft, flush_of, Ask, later_ask, GivesUpThenForwards, FillsIfAllowed, GivesUnlessIdle, IsAnswerOfQueues, IsFlushAnswer, AreFlushAnswers, at_limit, at_empty, after_packet, forward_made}
@@ -19,22 +19,49 @@ use Rattle.dcsctp_delivery_directions.proofs.sending.Packets.{out_below}
 
 -- ---- both stay
 
-abbrev fixed : SendQueueState → ℕ × Bool
-fixed queue = (queue.next_message_id, queue.is_interleaved)
+-- what no fragment changes
+record Fixed : Type 0 where
+  next : ℕ
+  kind : Bool
+  turns : Bool
 
-numbered_next : (place : ℕ) (message : Waiting) (under_way : UnderWay) (queue : SendQueueState) → fixed (begun_numbered place message under_way queue) ≡ fixed queue
-numbered_next place message under_way queue = go (under_way.sent == 0)
+abbrev fixed : SendQueueState → Fixed
+fixed queue = record { next = queue.next_message_id; kind = queue.is_interleaved; turns = queue.takes_turns }
+
+numbering_next : (place : ℕ) (begins is_unordered : Bool) (queue : SendQueueState) → fixed (queue_numbered place begins is_unordered queue) ≡ fixed queue
+numbering_next place true is_unordered queue = refl
+numbering_next place false is_unordered queue = refl
+
+serving_next : (place : ℕ) (is_over : Bool) (queue : SendQueueState) → fixed (queue_served place is_over queue) ≡ fixed queue
+serving_next place true queue = refl
+serving_next place false queue = refl
+
+turn_next : (place : ℕ) (begins : Bool) (size : ℕ) (queue : SendQueueState) → fixed (turn_counted place begins size queue) ≡ fixed queue
+turn_next place begins size queue = go (queue_interleaves queue)
   where
-    go : (b : Bool) → fixed (if b then taking_turn place message.is_unordered queue else queue) ≡ fixed queue
-    go true = refl
-    go false = refl
+    go : (b : Bool) → fixed (if b then queue_served place (fills_turn queue.turn_size size (stream_at queue.streams place)) (queue_with_turn_bytes place size queue) else queue_served place begins queue) ≡ fixed queue
+    go true = serving_next place (fills_turn queue.turn_size size (stream_at queue.streams place)) (queue_with_turn_bytes place size queue)
+    go false = serving_next place begins queue
+
+counted_next : (place size : ℕ) (message : Waiting) (under_way : UnderWay) (queue : SendQueueState) → fixed (fragment_counted place size message under_way queue) ≡ fixed queue
+counted_next place size message under_way queue =
+    turn_next place (under_way.sent == 0) size (queue_numbered place (under_way.sent == 0) message.is_unordered queue) ∙ numbering_next place (under_way.sent == 0) message.is_unordered queue
+
+-- the fields that a stream's progress leaves
+part_next : (place max : ℕ) (message : Waiting) (under_way : UnderWay) (queue : SendQueueState) → fixed (after_part place max message under_way queue) ≡ fixed queue
+part_next place max message under_way queue = counted_next place max message under_way (reduced_queue place max queue)
+
+last_next : (place : ℕ) (message : Waiting) (under_way : UnderWay) (queue : SendQueueState) → fixed (after_last place message under_way queue) ≡ fixed queue
+last_next place message under_way queue =
+    let size : ℕ = length message.payload - under_way.sent in
+    counted_next place size message under_way (reduced_queue place size queue)
 
 produced_next : (place max : ℕ) (message : Waiting) (under_way : UnderWay) (queue : SendQueueState) → fixed (queue_after_producing place max message under_way queue) ≡ fixed queue
 produced_next place max message under_way queue = go (is_last max message under_way)
   where
     go : (b : Bool) → fixed (if b then after_last place message under_way queue else after_part place max message under_way queue) ≡ fixed queue
-    go true = numbered_next place message under_way (reduced_queue place (length message.payload - under_way.sent) queue)
-    go false = numbered_next place message under_way (reduced_queue place max queue)
+    go true = last_next place message under_way queue
+    go false = part_next place max message under_way queue
 
 drops_next : {P : Type 0} (now : ℕ) (old : SendQueueState) (events : List (Event P)) (new : SendQueueState) → Drops now old events new → fixed new ≡ fixed old
 drops_next now old events new drops_none = refl
@@ -131,7 +158,10 @@ flush_fixed _ _ _ _ _ (at_empty ask more e draft answer is empty) = asked_next a
 flush_fixed _ _ _ _ _ (after_packet ask more e draft answer answers is some rest) = flush_fixed later_ask more (asked_outcome e draft answer).after (next_draft e.core draft) answers rest ∙ asked_next ask e draft answer is
 
 pub flush_next : (ask : Ask) (n : ℕ) (e : Endpoint) (draft : Emission) (answers : List Answer) → AreFlushAnswers ask n e draft answers → (flush_of e draft answers).after.queues.queue.next_message_id ≡ e.queues.queue.next_message_id
-flush_next ask n e draft answers allowed = ap (λ (f : ℕ × Bool). f.0) (flush_fixed ask n e draft answers allowed)
+flush_next ask n e draft answers allowed = ap (λ (f : Fixed). f.next) (flush_fixed ask n e draft answers allowed)
 
 pub flush_kind : (ask : Ask) (n : ℕ) (e : Endpoint) (draft : Emission) (answers : List Answer) → AreFlushAnswers ask n e draft answers → (flush_of e draft answers).after.queues.queue.is_interleaved ≡ e.queues.queue.is_interleaved
-flush_kind ask n e draft answers allowed = ap (λ (f : ℕ × Bool). f.1) (flush_fixed ask n e draft answers allowed)
+flush_kind ask n e draft answers allowed = ap (λ (f : Fixed). f.kind) (flush_fixed ask n e draft answers allowed)
+
+pub flush_turns : (ask : Ask) (n : ℕ) (e : Endpoint) (draft : Emission) (answers : List Answer) → AreFlushAnswers ask n e draft answers → (flush_of e draft answers).after.queues.queue.takes_turns ≡ e.queues.queue.takes_turns
+flush_turns ask n e draft answers allowed = ap (λ (f : Fixed). f.turns) (flush_fixed ask n e draft answers allowed)

@@ -97,9 +97,9 @@ module _ (queued : List Message) (history : History) (first acknowledged : ℕ) 
       (requesting_hold queued (gave.more ++ history.log) (streams_within room) answer.begun gives.gave_up.waiting gave.stands.queue_holds) gave.stands.cut
       (bears_marked (log_extended gave.more history) first acknowledged answer.begun ids gives.gave_up.queue gave.stands.bears)
       (pends_marked (log_extended gave.more history) answer.begun ids gives.gave_up.queue gave.stands.pends)
-      (marks_marked ask e.options.follow_rfc (may_be_asked e.core e.options.follow_rfc) room (log_extended gave.more history) first acknowledged answer.begun gives.gave_up.waiting gives.gave_up.queue
-      gave.stands.bears gives.begins gave.stands.marks)
-      (requesting_numbered (log_extended gave.more history) (streams_within room) answer.begun gives.gave_up.waiting gave.stands.numbers)
+      (marks_marked queued ask e.options.follow_rfc (may_be_asked e.core e.options.follow_rfc) room (log_extended gave.more history) first acknowledged answer.begun gives.gave_up.waiting gives.gave_up.queue
+      gave.stands.queue_holds gave.stands.bears gives.begins gave.stands.marks)
+      (requesting_numbered queued (log_extended gave.more history) (streams_within room) answer.begun gives.gave_up.waiting gave.stands.queue_holds gave.stands.numbers)
       (begun_kind answer.begun gives.gave_up.queue ∙ gave.stands.kind ∙ sym (requesting_kind (streams_within room) answer.begun gives.gave_up.waiting))
 
   full : Stays queued noted first acknowledged gives.sent

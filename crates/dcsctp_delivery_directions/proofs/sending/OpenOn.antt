@@ -9,7 +9,6 @@ use Rattle.dcsctp_spec.specs.association.Choices.{plain_contents}
 use Rattle.dcsctp_spec.specs.types.Setting.{Setting, stream_priority, stream_low_threshold, longest_message}
 use Rattle.dcsctp_spec.specs.types.declared.sending.Pause.{Pause}
 use Rattle.dcsctp_spec.specs.types.declared.sending.Pause.TheVariants.{Open, Pausing, HandedOut}
-use Rattle.dcsctp_spec.specs.types.declared.sending.UnderWay.{UnderWay}
 use Rattle.dcsctp_spec.specs.types.queues.SendStreams.{Waiting, Stream, stream_at, unused_stream, with_message, committed_stream, rolled_back, handed_out}
 use Rattle.dcsctp_spec.specs.queues.OwnResets.{is_ready, ready_streams, handing_out, queue_committed, queue_rolled_back, queue_with_prepared, prepared_all, prepared_open, prepared_stream, dropped_size, count_under_way, with_used, is_open_pause}
 use Rattle.dcsctp_spec.specs.queues.SendQueue.{SendQueueState, stream_changed, with_stream, is_used, used_streams, with_threshold, with_priority, queue_stream, queued_message as waiting_as}
@@ -114,7 +113,7 @@ module _ (id : ℕ) where
 
       go : (b : Bool) → IsOpenOn id (if b then prepared_open other start else start).streams
       go true =
-          open_changed other (prepared_stream (dropped_size other start) (count_under_way other start.under_way)) (λ s here is on. absurd (ne (sym here ∙ on))) start.streams (open_used queue other are)
+          open_changed other (prepared_stream (dropped_size other start) (count_under_way (queue_stream start other))) (λ s here is on. absurd (ne (sym here ∙ on))) start.streams (open_used queue other are)
       go false = open_used queue other are
 
   pub preparing_open_on : (ids : List ℕ) (queue : SendQueueState) → is_named ids id ≡ false → OpenStays queue.streams (prepared_all ids queue).streams
@@ -137,22 +136,22 @@ module _ (id : ℕ) where
   none_taken (suc count) (first ∷ ids) none = (let both = not_first (first == id) (is_named ids id) none in rw both.0 (none_taken count ids both.1))
 
   -- it isn't ready to be reset
-  none_ready : (u : Option UnderWay) (streams : List Stream) → IsOpenOn id streams → is_named (map (λ stream. stream.id) (filter (is_ready u) streams)) id ≡ false
-  none_ready u [] are = refl
-  none_ready u (s ∷ streams) are =
+  none_ready : (streams : List Stream) → IsOpenOn id streams → is_named (map (λ stream. stream.id) (filter is_ready streams)) id ≡ false
+  none_ready [] are = refl
+  none_ready (s ∷ streams) are =
       elim (eqb_tells s.id id) [
-        | inl e ↦ rw (are.0 e.1) (none_ready u streams are.1)
-        | inr e ↦ go (is_ready u s) e.0 (none_ready u streams are.1)
+        | inl e ↦ rw (are.0 e.1) (none_ready streams are.1)
+        | inr e ↦ go (is_ready s) e.0 (none_ready streams are.1)
       ]
     where
-      go : (b : Bool) → (s.id == id) ≡ false → is_named (map (λ stream. stream.id) (filter (is_ready u) streams)) id ≡ false
-          → is_named (map (λ stream. stream.id) (if b then s ∷ filter (is_ready u) streams else filter (is_ready u) streams)) id ≡ false
+      go : (b : Bool) → (s.id == id) ≡ false → is_named (map (λ stream. stream.id) (filter is_ready streams)) id ≡ false
+          → is_named (map (λ stream. stream.id) (if b then s ∷ filter is_ready streams else filter is_ready streams)) id ≡ false
       go true other rest = rw other rest
       go false other rest = rest
 
   requesting_open : (count : ℕ) (begun : Option BegunReset) (queue : SendQueueState) → OpenStays queue.streams (queue_requesting count begun queue).streams
   requesting_open count None queue are = are
-  requesting_open count (Some begun) queue are = handing_open (take count (ready_streams queue)) queue.streams (none_taken count (ready_streams queue) (none_ready queue.under_way queue.streams are)) are
+  requesting_open count (Some begun) queue are = handing_open (take count (ready_streams queue)) queue.streams (none_taken count (ready_streams queue) (none_ready queue.streams are)) are
 
   given_open : (b : Bool) (ask : Ask) (e : Endpoint) (draft : Emission) (transfer : Transfer) (answer : Answer) → GivesUnlessIdle b ask e draft transfer answer → OpenStays e.queues.queue.streams answer.after.queues.queue.streams
   given_open true ask e draft transfer answer gives are = subst (λ (a : Answer). IsOpenOn id a.after.queues.queue.streams) (sym gives) are
@@ -230,7 +229,7 @@ module _ (id : ℕ) where
       start = with_used other queue
 
       go : (b : Bool) → WaitsOn (if b then prepared_open other start else start).streams w
-      go true = elsewhere_waits other (prepared_stream (dropped_size other start) (count_under_way other start.under_way)) start.streams w ne (used_waits queue other w waits)
+      go true = elsewhere_waits other (prepared_stream (dropped_size other start) (count_under_way (queue_stream start other))) start.streams w ne (used_waits queue other w waits)
       go false = used_waits queue other w waits
 
   pub preparing_waits : (ids : List ℕ) (queue : SendQueueState) (w : Waiting) → is_named ids id ≡ false → WaitsOn queue.streams w → WaitsOn (prepared_all ids queue).streams w

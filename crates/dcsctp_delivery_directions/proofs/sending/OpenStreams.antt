@@ -7,7 +7,6 @@ use Rattle.dcsctp_spec.specs.Packet.{Emission}
 use Rattle.dcsctp_spec.specs.association.Choices.{plain_contents}
 use Rattle.dcsctp_spec.specs.types.Setting.{Setting, stream_priority, stream_low_threshold, longest_message}
 use Rattle.dcsctp_spec.specs.types.declared.sending.Pause.TheVariants.{Open}
-use Rattle.dcsctp_spec.specs.types.declared.sending.UnderWay.{UnderWay}
 use Rattle.dcsctp_spec.specs.types.queues.SendStreams.{Stream, stream_at, unused_stream, with_message, committed_stream, rolled_back}
 use Rattle.dcsctp_spec.specs.queues.OwnResets.{is_ready, queue_committed, queue_rolled_back}
 use Rattle.dcsctp_spec.specs.queues.SendQueue.{SendQueueState, stream_changed, with_stream, is_used, used_streams, with_threshold, with_priority, queued_message as waiting_as}
@@ -89,9 +88,9 @@ rolling_back_open queue are = open_mapped rolled_back (λ s is. rw is refl) queu
 -- ---- a flush
 
 -- No stream is ready to be reset,
-none_ready : (u : Option UnderWay) (streams : List Stream) → AreOpen streams → filter (is_ready u) streams ≡ []
-none_ready u [] are = refl
-none_ready u (s ∷ streams) are = rw are.0 (none_ready u streams are.1)
+none_ready : (streams : List Stream) → AreOpen streams → filter is_ready streams ≡ []
+none_ready [] are = refl
+none_ready (s ∷ streams) are = rw are.0 (none_ready streams are.1)
 
 -- so no reset is begun.
 begun_of_none : (follows : Bool) (outstanding : Option ℕ) (number last_tsn : ℕ) → begun_if_ready follows outstanding number last_tsn [] ≡ None
@@ -105,7 +104,7 @@ take_none (suc count) = refl
 begins_none : (follows : Bool) (held : Option Held) (room last_tsn : ℕ) (queue : SendQueueState) → AreOpen queue.streams → begun_if_connected follows held room last_tsn queue ≡ None
 begins_none follows None room last_tsn queue are = refl
 begins_none follows (Some held) room last_tsn queue are =
-    ap (λ (l : List Stream). begun_if_ready follows held.own_outstanding held.own_next last_tsn (map stream_field (take (streams_within room) (map (λ (s : Stream). s.id) l)))) (none_ready queue.under_way queue.streams are)
+    ap (λ (l : List Stream). begun_if_ready follows held.own_outstanding held.own_next last_tsn (map stream_field (take (streams_within room) (map (λ (s : Stream). s.id) l)))) (none_ready queue.streams are)
     ∙ ap (λ (l : List ℕ). begun_if_ready follows held.own_outstanding held.own_next last_tsn l) (take_none (streams_within room)) ∙ begun_of_none follows held.own_outstanding held.own_next last_tsn
 
 asks_none : (ask : Ask) (follows : Bool) (held : Option Held) (room last_tsn : ℕ) (queue : SendQueueState) → AreOpen queue.streams → begun_by_ask ask follows held room last_tsn queue ≡ None

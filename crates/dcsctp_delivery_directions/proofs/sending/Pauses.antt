@@ -1,18 +1,16 @@
 -- Which streams are handed out to be reset, while messages leave the send queue.
-use Rattle.std.proofs.Common.{◌≡◌, ℕ, Bool, true, false, List, ◌++◌, refl, ◌∙◌, ap, inl, inr}
-use Rattle.std.specs.Prelude.{Some, if◌then◌else◌}
+use Rattle.std.proofs.Common.{◌≡◌, ℕ, Bool, true, false, List, [], ◌∷◌, ◌++◌, refl, ◌∙◌, ap, subst, inl, inr}
+use Rattle.std.specs.Prelude.{Option, None, Some, if◌then◌else◌}
 use Rattle.dcsctp_spec.specs.types.declared.sending.Pause.{Pause}
 use Rattle.dcsctp_spec.specs.types.declared.sending.Pause.TheVariants.{Open, Pausing, HandedOut}
 use Rattle.dcsctp_spec.specs.types.declared.sending.Turn.{Turn}
 use Rattle.dcsctp_spec.specs.types.declared.sending.UnderWay.{UnderWay}
-use Rattle.dcsctp_spec.specs.types.queues.SendStreams.{Waiting, Stream, unused_stream, turn_if, turn_of}
-use Rattle.dcsctp_spec.specs.queues.SendQueue.{SendQueueState}
-use Rattle.dcsctp_spec.specs.queues.Sending.{after_part, after_last, queue_after_producing, is_last}
-use Rattle.dcsctp_delivery_directions.specs.sending.Numbers.{stream_named, is_handed_out, IsUnderWayKept, AreCurrent, AreKept}
+use Rattle.dcsctp_spec.specs.types.queues.SendStreams.{Waiting, Stream, unused_stream, may_send_on, turn_of}
+use Rattle.dcsctp_delivery_directions.specs.sending.Numbers.{stream_named, is_handed_out, AreCurrent, AreKept}
 use Rattle.dcsctp_spec.specs.queues.Filling.{Stage, StepAgain, StepNew, StageSteps}
 use Rattle.dcsctp_delivery_directions.specs.sending.Log.{Slot, History}
 use Rattle.dcsctp_delivery_directions.proofs.sending.Places.{at_either}
-use Rattle.dcsctp_delivery_directions.proofs.sending.KeptPauses.{FollowsPauses, by_part, by_produced, by_step_again, by_step_new, by_steps}
+use Rattle.dcsctp_delivery_directions.proofs.sending.KeptPauses.{FollowsPauses, by_step_again, by_step_new, by_steps}
 use Rattle.dcsctp_delivery_directions.proofs.sending.StreamsNamed.{found_set}
 
 abbrev pub SamePause : Stream → Stream → Type 0
@@ -33,29 +31,19 @@ pauses_follow =
       set = λ place new streams is same id. found_set SamePause id (unused_stream 0 0 0) new (λ s. refl) place streams is (λ here. ap is_handed_out same);
     }
 
-pub pauses_produced : (place max : ℕ) (message : Waiting) (under_way : UnderWay) (queue : SendQueueState) → PausesStay queue.streams (queue_after_producing place max message under_way queue).streams
-pauses_produced place max message under_way queue = by_produced PausesStay pauses_follow place max message under_way queue
-
-pauses_part : (place max : ℕ) (message : Waiting) (under_way : UnderWay) (queue : SendQueueState) → PausesStay queue.streams (after_part place max message under_way queue).streams
-pauses_part place max message under_way queue = by_part PausesStay pauses_follow place max message under_way queue
-
--- the stream of the message under way still isn't handed out
-pub produced_kept : (place max : ℕ) (message : Waiting) (under_way : UnderWay) (queue : SendQueueState) → is_handed_out (stream_named under_way.stream_id.0 queue.streams).pause ≡ false
-    → IsUnderWayKept (queue_after_producing place max message under_way queue).streams (queue_after_producing place max message under_way queue).under_way
-produced_kept place max message under_way queue kept = go (is_last max message under_way)
+-- a stream whose turn it is isn't handed out, if no message of it is under way
+pub turn_open : (s : Stream) (turn : Turn) → turn_of s ≡ Some turn → s.under_way ≡ None → is_handed_out s.pause ≡ false
+turn_open s turn is idle = go s.pause s.messages (subst (λ (u : Option UnderWay). may_send_on u s.pause s.messages ≡ true) idle (sends (may_send_on s.under_way s.pause s.messages) _ is))
   where
-    go : (b : Bool) → IsUnderWayKept (if b then after_last place message under_way queue else after_part place max message under_way queue).streams (if b then after_last place message under_way queue else after_part place max message under_way queue).under_way
-    go true = tt
-    go false = pauses_part place max message under_way queue under_way.stream_id.0 ∙ kept
+    sends : (b : Bool) (its : Turn) → (if b then Some its else None) ≡ Some turn → b ≡ true
+    sends true its e = refl
+    sends false its e = absurd (cc)
 
--- a stream whose turn it is isn't handed out
-pub turn_open : (s : Stream) (turn : Turn) → turn_of s ≡ Some turn → is_handed_out s.pause ≡ false
-turn_open s turn is = go s.pause is
-  where
-    go : (p : Pause) → turn_if s.priority s.last_turn s.id p s.messages ≡ Some turn → is_handed_out p ≡ false
-    go Open e = refl
-    go Pausing e = refl
-    go HandedOut e = absurd (cc)
+    go : (p : Pause) (messages : List Waiting) → may_send_on None p messages ≡ true → is_handed_out p ≡ false
+    go Open messages e = refl
+    go Pausing messages e = refl
+    go HandedOut [] e = absurd (cc)
+    go HandedOut (w ∷ messages) e = absurd (cc)
 
 -- ---- while a packet is filled
 

@@ -1,245 +1,262 @@
 -- What is handed out is a piece, and joins the log.
-use Rattle.std.proofs.Common.{◌≡◌, ◌≢◌, ◌==◌, ℕ, suc, Bool, true, false, ◌<◌, ◌+◌, ◌-◌, ◌%◌, ◌^◌, ◌≤◌, List, [], ◌∷◌, length, take, drop, refl, sym, ◌∙◌, ap, arith, subst, inl, inr}
-use Rattle.std.specs.Prelude.{◌⊎◌, Option, None, Some, if◌then◌else◌}
-use Rattle.std.proofs.lemmas.Bool.Decides.{eqb_tells, leb_tells}
-use Rattle.std.proofs.lemmas.List.{get_or-set_same, get_or_past}
+use Rattle.std.proofs.Common.{◌≡◌, ◌≢◌, ◌==◌, ℕ, suc, false, ◌<◌, ◌+◌, ◌-◌, ◌%◌, ◌^◌, ◌≤◌, List, ◌∷◌, length, take, drop, refl, sym, ◌∙◌, ap, arith, subst, inl, inr}
+use Rattle.std.specs.Prelude.{◌⊎◌, Option, None, Some, is_some, if◌then◌else◌}
+use Rattle.std.proofs.lemmas.Bool.Decides.{leb_tells}
+use Rattle.std.proofs.lemmas.List.{get_or_past}
 use Rattle.dcsctp_spec.specs.types.declared.sending.UnderWay.{UnderWay}
-use Rattle.dcsctp_spec.specs.types.queues.SendStreams.{Waiting, Stream, front_of, without_front, unused_stream, stream_at}
+use Rattle.dcsctp_spec.specs.types.queues.SendStreams.{Waiting, Stream, front_of, unused_stream, stream_at, progress_size}
 use Rattle.dcsctp_spec.specs.queues.SendQueue.{SendQueueState}
-use Rattle.dcsctp_spec.specs.queues.Sending.{fragment, reduced_queue, begun_numbered, after_part, after_last, queue_after_producing, is_last, size_produced}
+use Rattle.dcsctp_spec.specs.queues.Sending.{fragment, progress_after, size_produced}
 use Rattle.dcsctp_delivery_directions.specs.sending.Places.{at_place}
 use Rattle.dcsctp_delivery_directions.specs.sending.Log.{Message, Piece, Slot, IsPiece}
-use Rattle.dcsctp_delivery_directions.specs.sending.Pieces.{IsWaitingMessage, AllQueued, AllBeyond, Ascend, unbegun, IsGoing, HoldsQueued, CarriesPiece}
-use Rattle.dcsctp_delivery_directions.specs.sending.Weights.{HasRoomForLog}
+use Rattle.dcsctp_delivery_directions.specs.sending.Pieces.{IsWaitingMessage, AllQueued, AllBeyond, Ascend, unbegun, Going, HoldsQueued, CarriesPiece}
+use Rattle.dcsctp_delivery_directions.specs.sending.Weights.{weigh, weight, HasRoomForLog}
 use Rattle.dcsctp_delivery_directions.proofs.sending.Places.{decide, at_cases}
-use Rattle.dcsctp_delivery_directions.proofs.sending.Weights.{weight_same, weight_front}
-use Rattle.dcsctp_delivery_directions.proofs.sending.Streams.{alike_is_shorter, distinct_on, small_on, wait_on, Alike, shorter_beyond, last_shorter, ascend_on, numbered_reduced, Shorter, rest_of, beyond_drop}
+use Rattle.dcsctp_delivery_directions.proofs.sending.Weights.{front_weighs, weight_changed, sum_changed}
+use Rattle.dcsctp_delivery_directions.proofs.sending.Newest.{newest_here, newest_else}
+use Rattle.dcsctp_delivery_directions.proofs.sending.Streams.{within_streams, queued_drop, ascend_drop, rest_of, unbegun_rest}
+use Rattle.dcsctp_delivery_directions.proofs.sending.Fragments.{each_changed, changes_ids, changes_distinct}
+use Rattle.dcsctp_delivery_directions.proofs.sending.WhatLeaves.{Produces, Leaves, part, last}
 
 -- ---- what is handed out
 
--- a stream with a message is there; where there is none, none waits
-pub within_streams : (streams : List Stream) (place : ℕ) (w : Waiting) → front_of (stream_at streams place).messages ≡ Some w → place < length streams
-within_streams streams place w front =
-    elim (leb_tells (suc place) (length streams)) [
-      | inl e ↦ e.1
-      | inr e ↦
-          (let beyond : length streams ≤ place = (let lt : length streams < suc place = e.1 in omega arith) in
-          let nothing : ◌≡◌ {A = Option Waiting} None (Some w) = ap (λ (s : Stream). front_of s.messages) (sym (get_or_past streams place (unused_stream 0 0 0) beyond)) ∙ front in
-          absurd (cc))
-    ]
-
-pub there_or_empty : (streams : List Stream) (q : ℕ) → (q < length streams) ⊎ ((stream_at streams q).messages ≡ [])
-there_or_empty streams q =
+pub there_or_unused : (streams : List Stream) (q : ℕ) → (q < length streams) ⊎ (stream_at streams q ≡ unused_stream 0 0 0)
+there_or_unused streams q =
     elim (leb_tells (suc q) (length streams)) [
       | inl e ↦ inl e.1
       | inr e ↦
           (let beyond : length streams ≤ q = (let lt : length streams < suc q = e.1 in omega arith) in
-          inr (ap (λ (s : Stream). s.messages) (get_or_past streams q (unused_stream 0 0 0) beyond)))
+          inr (get_or_past streams q (unused_stream 0 0 0) beyond))
     ]
 
-pub none_beyond : (place : ℕ) (messages : List Waiting) → messages ≡ [] → AllBeyond place messages
-none_beyond place messages e = subst (λ (l : List Waiting). AllBeyond place l) (sym e) tt
+-- A piece of the stream that isn't the one at this place changes nothing of a message under way.
+pub going_else : (queued : List Message) (log : List Slot) (piece : Piece) (s : Stream) (u : Option UnderWay) → (piece.message.stream ≡ s.id → ⊥) → Going queued log s u → Going queued (Some piece ∷ log) s u
+going_else queued log piece s None other going = tt
+going_else queued log piece s (Some u) other going =
+    let same = newest_else u.stream_id.0 piece log (λ on. other (on ∙ sym going.is)) in
+    record {
+      place = going.place;
+      message = going.message;
+      at = going.at;
+      unfinished = going.unfinished;
+      begun = going.begun;
+      is = going.is;
+      waiting = going.waiting;
+      front = going.front;
+      named = going.named;
+      came = elim going.came [
+        | inl none ↦ inl (same ∙ none)
+        | inr c ↦ inr (record { piece = c.piece; at = same ∙ c.at; is = c.is; says = c.says; end = c.end; mid = c.mid; fsn = c.fsn })
+      ];
+    }
 
-module _ (queued : List Message) (log : List Slot) (max place : ℕ) (queue : SendQueueState) (message : Waiting) (under_way : UnderWay) (piece : Piece)
-    (wait : (q : ℕ) → AllQueued queued (stream_at queue.streams q).id (stream_at queue.streams q).messages)
-    (ascend : (q : ℕ) → Ascend (stream_at queue.streams q).messages)
-    (distinct : (p q : ℕ) → p < length queue.streams → q < length queue.streams → (stream_at queue.streams p).id ≡ (stream_at queue.streams q).id → p ≡ q)
-    (front : front_of (stream_at queue.streams place).messages ≡ Some message)
-    (id_is : (stream_at queue.streams place).id ≡ under_way.stream_id.0)
-    (old_here : (n : ℕ) (f : Piece) → at_place n log ≡ Some (Some f) → f.message.stream ≡ (stream_at queue.streams place).id → AllBeyond f.place (drop 1 (stream_at queue.streams place).messages))
-    (old_there : (q n : ℕ) (f : Piece) → at_place n log ≡ Some (Some f) → f.message.stream ≡ (stream_at queue.streams q).id → (stream_at queue.streams q).id ≢ (stream_at queue.streams place).id
-    → AllBeyond f.place (stream_at queue.streams q).messages)
-    (named : message.message_id ≡ piece.place)
-    (message_is : IsWaitingMessage (stream_at queue.streams place).id message piece.message)
-    (queued_at : at_place piece.place queued ≡ Some piece.message)
-    (fresh : piece.message.is_spent ≡ false)
-    (start_is : under_way.sent ≡ piece.start)
-    (mid_is : under_way.mid % 2 ^ 32 ≡ piece.mid % 2 ^ 32)
-    (fsn_is : under_way.next_fsn ≡ piece.fsn)
-    (ssn_is : under_way.ssn ≡ piece.ssn)
-    (first_is : piece.start ≡ 0 → piece.fsn ≡ 0)
-    (size_is : piece.size ≡ size_produced max message under_way)
-    (has_room : 0 < max)
-    (roomy : HasRoomForLog queued log queue.streams (Some under_way))
-    (unfinished : under_way.sent < length message.payload) where
-  has_size : 0 < size_produced max message under_way
-  has_size = omega arith
+-- nor does the end of one
+pub going_none : (queued : List Message) (log : List Slot) (s : Stream) (u : Option UnderWay) → Going queued log s u → Going queued (None ∷ log) s u
+going_none queued log s None going = tt
+going_none queued log s (Some u) going =
+    record {
+      place = going.place;
+      message = going.message;
+      at = going.at;
+      unfinished = going.unfinished;
+      begun = going.begun;
+      is = going.is;
+      waiting = going.waiting;
+      front = going.front;
+      named = going.named;
+      came = elim going.came [
+        | inl none ↦ inl none
+        | inr c ↦ inr (record { piece = c.piece; at = c.at; is = c.is; says = c.says; end = c.end; mid = c.mid; fsn = c.fsn })
+      ];
+    }
 
-  lengths : length message.payload ≡ length piece.message.payload
-  lengths = ap (λ (l : List ℕ). length l) message_is.payload
+-- The piece is the next one of the oldest message of the stream at the place.
+pub record TakesPiece (queued : List Message) (max : ℕ) (queue : SendQueueState) (piece : Piece) : Type 0 where
+  pub place : ℕ
+  pub waiting : Waiting
+  pub under_way : UnderWay
+  pub front : front_of (stream_at queue.streams place).messages ≡ Some waiting
+  pub is : (stream_at queue.streams place).id ≡ under_way.stream_id.0
+  pub sent : progress_size (stream_at queue.streams place).under_way ≡ under_way.sent
+  pub unfinished : under_way.sent < length waiting.payload
+  pub room : 0 < max
+  pub message : IsWaitingMessage (stream_at queue.streams place).id waiting piece.message
+  pub at : at_place piece.place queued ≡ Some piece.message
+  pub fresh : piece.message.is_spent ≡ false
+  pub named : waiting.message_id ≡ piece.place
+  pub start : piece.start ≡ under_way.sent
+  pub size : piece.size ≡ size_produced max waiting under_way
+  pub mid : under_way.mid % 2 ^ 32 ≡ piece.mid % 2 ^ 32
+  pub fsn : under_way.next_fsn ≡ piece.fsn
+  pub ssn : under_way.ssn ≡ piece.ssn
+  pub first : piece.start ≡ 0 → piece.fsn ≡ 0
+  pub kind : piece.is_interleaved ≡ queue.is_interleaved
+
+module _ (queued : List Message) (max : ℕ) (queue : SendQueueState) (piece : Piece) (t : TakesPiece queued max queue piece) where
+  has_size : 0 < size_produced max t.waiting t.under_way
+  has_size = let unfinished = t.unfinished in let room = t.room in omega (arith, unfinished, room)
+
+  pub piece_lengths : length t.waiting.payload ≡ length piece.message.payload
+  piece_lengths = ap (λ (l : List ℕ). length l) t.message.payload
 
   pub it_is_piece : IsPiece queued piece
   it_is_piece =
+      let start = t.start in
+      let size = t.size in
+      let unfinished = t.unfinished in
       record {
-        at = queued_at;
-        fresh = fresh;
-        some = omega (arith, has_size, size_is);
-        within = omega (arith, has_size, size_is, start_is, lengths);
-        first = first_is;
+        at = t.at;
+        fresh = t.fresh;
+        some = omega (arith, has_size, size);
+        within = omega (arith, has_size, size, start, unfinished, piece_lengths);
+        first = t.first;
       }
 
-  pub it_says : CarriesPiece (fragment under_way message (size_produced max message under_way)) piece
+  pub it_says : CarriesPiece (fragment t.under_way t.waiting (size_produced max t.waiting t.under_way)) piece
   it_says =
       record {
-        named = named;
-        stream = sym id_is ∙ message_is.stream;
-        ppid = message_is.ppid;
-        unordered = message_is.unordered;
-        beginning = ap (λ (k : ℕ). k == 0) start_is;
-        end = ap (λ (k : ℕ). (k + size_produced max message under_way) == length message.payload) start_is
-            ∙ ap (λ (k : ℕ). (piece.start + k) == length message.payload) (sym size_is) ∙ ap (λ (k : ℕ). (piece.start + piece.size) == k) lengths;
-        payload = ap (λ (k : ℕ). take k (drop under_way.sent message.payload)) (sym size_is) ∙ ap (λ (k : ℕ). take piece.size (drop k message.payload)) start_is
-            ∙ ap (λ (l : List ℕ). take piece.size (drop piece.start l)) message_is.payload;
-        limits = message_is.limits;
-        mid = mid_is;
-        fsn = fsn_is;
-        ssn = ssn_is;
+        named = t.named;
+        stream = sym t.is ∙ t.message.stream;
+        ppid = t.message.ppid;
+        unordered = t.message.unordered;
+        beginning = ap (λ (k : ℕ). k == 0) (sym t.start);
+        end = ap (λ (k : ℕ). (k + size_produced max t.waiting t.under_way) == length t.waiting.payload) (sym t.start)
+            ∙ ap (λ (k : ℕ). (piece.start + k) == length t.waiting.payload) (sym t.size) ∙ ap (λ (k : ℕ). (piece.start + piece.size) == k) piece_lengths;
+        payload = ap (λ (k : ℕ). take k (drop t.under_way.sent t.waiting.payload)) (sym t.size) ∙ ap (λ (k : ℕ). take piece.size (drop k t.waiting.payload)) (sym t.start)
+            ∙ ap (λ (l : List ℕ). take piece.size (drop piece.start l)) t.message.payload;
+        limits = t.message.limits;
+        mid = t.mid;
+        fsn = t.fsn;
+        ssn = t.ssn;
       }
 
-  within : place < length queue.streams
-  within = within_streams queue.streams place message front
+  pub within : t.place < length queue.streams
+  within = within_streams queue.streams t.place t.waiting t.front
 
-  here_rest : AllBeyond piece.place (drop 1 (stream_at queue.streams place).messages)
-  here_rest = subst (λ (k : ℕ). AllBeyond k (drop 1 (stream_at queue.streams place).messages)) named (rest_of (stream_at queue.streams place).messages message (ascend place) front)
+  pub stream_is : piece.message.stream ≡ (stream_at queue.streams t.place).id
+  stream_is = sym t.message.stream
 
-  -- on this stream all pieces come before what waits after the message, and on others before all that waits
-  pub here : (q n : ℕ) (f : Piece) → at_place n (Some piece ∷ log) ≡ Some (Some f) → f.message.stream ≡ (stream_at queue.streams q).id → (stream_at queue.streams q).id ≡ (stream_at queue.streams place).id
-      → AllBeyond f.place (drop 1 (stream_at queue.streams q).messages)
-  here q n f at of same =
-      elim (there_or_empty queue.streams q) [
-        | inr e ↦ beyond_drop f.place (stream_at queue.streams q).messages (none_beyond f.place (stream_at queue.streams q).messages e)
-        | inl below ↦
-            (let is : q ≡ place = distinct q place below within same in
-            subst (λ (k : ℕ). AllBeyond f.place (drop 1 (stream_at queue.streams k).messages)) (sym is)
-            (elim (at_cases n (Some piece) (Some f) log at) [
-              | inl e ↦ (let fresh : piece ≡ f = cc in subst (λ (g : Piece). AllBeyond g.place (drop 1 (stream_at queue.streams place).messages)) fresh here_rest)
-              | inr old ↦ old_here n f old (of ∙ same)
-            ]))
-      ]
+  -- ---- what the queue holds then
 
-  there : (q n : ℕ) (f : Piece) → at_place n (Some piece ∷ log) ≡ Some (Some f) → f.message.stream ≡ (stream_at queue.streams q).id → (stream_at queue.streams q).id ≢ (stream_at queue.streams place).id
-      → AllBeyond f.place (stream_at queue.streams q).messages
-  there q n f at of other =
-      elim (at_cases n (Some piece) (Some f) log at) [
-        | inl e ↦
-            (let fresh : piece ≡ f = cc in
-            absurd (other (sym of ∙ ap (λ (g : Piece). g.message.stream) (sym fresh) ∙ sym message_is.stream)))
-        | inr old ↦ old_there q n f old of other
-      ]
+  module _ (log : List Slot) (holds : HoldsQueued queued log queue.streams) where
+    here_rest : AllBeyond piece.place (drop 1 (stream_at queue.streams t.place).messages)
+    here_rest = subst (λ (k : ℕ). AllBeyond k (drop 1 (stream_at queue.streams t.place).messages)) t.named (rest_of (stream_at queue.streams t.place).messages t.waiting (holds.ascend t.place) t.front)
 
-  alike : Alike queue.streams (after_part place max message under_way queue).streams
-  alike = numbered_reduced place max message under_way queue
+    -- a stream at another place has another number, or nothing
+    pub elsewhere : (q : ℕ) → q ≢ t.place → (piece.message.stream ≡ (stream_at queue.streams q).id → ⊥) ⊎ (stream_at queue.streams q ≡ unused_stream 0 0 0)
+    elsewhere q other =
+        elim (there_or_unused queue.streams q) [
+          | inl below ↦ inl (λ on. other (holds.distinct q t.place below within (sym on ∙ stream_is)))
+          | inr unused ↦ inr unused
+        ]
 
-  shorter : Shorter queue.streams (after_last place message under_way queue).streams
-  shorter = last_shorter place message under_way queue
+    module _ (messages : List Waiting) (progress : Option UnderWay) (new : SendQueueState) (p : Produces t.place t.waiting t.under_way messages progress queue new)
+        (rest : drop (if is_some progress then 1 else 0) messages ≡ drop 1 (stream_at queue.streams t.place).messages) where
+      rest_is : unbegun (stream_at new.streams t.place) ≡ drop 1 (stream_at queue.streams t.place).messages
+      rest_is =
+          ap (λ (u : Option UnderWay). drop (if is_some u then 1 else 0) (stream_at new.streams t.place).messages) p.progress_is
+          ∙ ap (λ (l : List Waiting). drop (if is_some progress then 1 else 0) l) p.messages_are ∙ rest
 
-  last_here : (stream_at (after_last place message under_way queue).streams place).messages ≡ drop 1 (stream_at queue.streams place).messages
-  last_here =
-      let between = begun_numbered place message under_way (reduced_queue place (length message.payload - under_way.sent) queue) in
-      let same = numbered_reduced place (length message.payload - under_way.sent) message under_way queue in
-      let size : length between.streams ≡ length queue.streams = same.sizes in
-      ap (λ (s : Stream). s.messages) (get_or-set_same between.streams place (without_front (stream_at between.streams place)) (unused_stream 0 0 0) (omega (arith, within)))
-      ∙ ap (λ (l : List Waiting). drop 1 l) (same.messages place)
+      new_beyond : (q n : ℕ) (f : Piece) → at_place n (Some piece ∷ log) ≡ Some (Some f) → f.message.stream ≡ (stream_at new.streams q).id → AllBeyond f.place (unbegun (stream_at new.streams q))
+      new_beyond q n f at on =
+          elim (decide q t.place) [
+            | inl here ↦
+                subst (λ (k : ℕ). AllBeyond f.place (unbegun (stream_at new.streams k))) (sym here)
+                (subst (λ (l : List Waiting). AllBeyond f.place l) (sym rest_is)
+                (elim (at_cases n (Some piece) (Some f) log at) [
+                  | inl e ↦ (let fresh : piece ≡ f = cc in subst (λ (g : Piece). AllBeyond g.place (drop 1 (stream_at queue.streams t.place).messages)) fresh here_rest)
+                  | inr old ↦ unbegun_rest f.place (stream_at queue.streams t.place) (holds.beyond t.place n f old (on ∙ ap (λ (k : ℕ). (stream_at new.streams k).id) here ∙ p.one.id))
+                ]))
+            | inr other ↦
+                (let same = p.one.others q other in
+                let on' : f.message.stream ≡ (stream_at queue.streams q).id = on ∙ ap (λ (s : Stream). s.id) same in
+                subst (λ (s : Stream). AllBeyond f.place (unbegun s)) (sym same)
+                (elim (at_cases n (Some piece) (Some f) log at) [
+                  | inr old ↦ holds.beyond q n f old on'
+                  | inl e ↦
+                      (let fresh : piece ≡ f = cc in
+                      elim (elsewhere q other) [
+                        | inl apart ↦ absurd (apart (ap (λ (g : Piece). g.message.stream) fresh ∙ on'))
+                        | inr unused ↦ subst (λ (s : Stream). AllBeyond f.place (unbegun s)) (sym unused) tt
+                      ])
+                ]))
+          ]
 
-  part_going : (u : UnderWay) → u.stream_id.0 ≡ under_way.stream_id.0 → u.sent ≡ under_way.sent + max → u.mid ≡ under_way.mid → u.next_fsn ≡ (under_way.next_fsn + 1) % 2 ^ 32 → is_last max message under_way ≡ false
-      → IsGoing queued (Some piece ∷ log) (after_part place max message under_way queue).streams u
-  part_going u same_stream same_sent same_mid next_fsn open_end =
-      let rest : max < length message.payload - under_way.sent = elim (leb_tells (length message.payload - under_way.sent) max) [
-        | inl e ↦ (let clash : true ≡ false = sym e.0 ∙ open_end in absurd (cc))
-        | inr e ↦ e.1
-      ] in
-      record {
-        place = piece.place;
-        message = piece.message;
-        at = queued_at;
-        unfinished = omega (arith, same_sent, lengths);
-        begun = omega (arith, same_sent, has_room);
-        there = record {
-          q = place;
-          within = (let size : length (after_part place max message under_way queue).streams ≡ length queue.streams = alike.sizes in omega (arith, within));
-          is = alike.ids place ∙ id_is ∙ sym same_stream;
-          waiting = message;
-          front = ap front_of (alike.messages place) ∙ front;
-        };
-        came = inr (record { piece = piece; at = refl; is = refl; says = refl; end = omega (arith, same_sent, start_is, size_is); mid = ap (λ (k : ℕ). k % 2 ^ 32) same_mid ∙ mid_is; fsn = omega (arith, next_fsn, fsn_is) });
-        front = λ q w id is.
-            let is' : front_of (stream_at queue.streams q).messages ≡ Some w = ap front_of (sym (alike.messages q)) ∙ is in
-            let same_id : (stream_at queue.streams q).id ≡ (stream_at queue.streams place).id = sym (alike.ids q) ∙ id ∙ same_stream ∙ sym id_is in
-            let at : q ≡ place = distinct q place (within_streams queue.streams q w is') within same_id in
-            let both : Some w ≡ Some message = sym is' ∙ ap (λ (k : ℕ). front_of (stream_at queue.streams k).messages) at ∙ front in
-            let same : w ≡ message = cc in
-            ap (λ (x : Waiting). x.message_id) same ∙ named;
-      }
+      new_going : Going queued (Some piece ∷ log) (stream_at new.streams t.place) progress → (q : ℕ) → Going queued (Some piece ∷ log) (stream_at new.streams q) (stream_at new.streams q).under_way
+      new_going here q =
+          elim (decide q t.place) [
+            | inl is ↦ subst (λ (k : ℕ). Going queued (Some piece ∷ log) (stream_at new.streams k) (stream_at new.streams k).under_way) (sym is) (subst (Going queued (Some piece ∷ log) (stream_at new.streams t.place)) (sym p.progress_is) here)
+            | inr other ↦
+                subst (λ (s : Stream). Going queued (Some piece ∷ log) s s.under_way) (sym (p.one.others q other))
+                (elim (elsewhere q other) [
+                  | inl apart ↦ going_else queued log piece (stream_at queue.streams q) (stream_at queue.streams q).under_way apart (holds.going q)
+                  | inr unused ↦ subst (λ (s : Stream). Going queued (Some piece ∷ log) s s.under_way) (sym unused) tt
+                ])
+          ]
 
-  part_beyond : (u : UnderWay) → u.stream_id.0 ≡ under_way.stream_id.0 → (q n : ℕ) (f : Piece) → at_place n (Some piece ∷ log) ≡ Some (Some f)
-      → f.message.stream ≡ (stream_at (after_part place max message under_way queue).streams q).id
-      → AllBeyond f.place (unbegun (Some u) (stream_at (after_part place max message under_way queue).streams q))
-  part_beyond u same_stream q n f at of =
-      elim (eqb_tells (stream_at (after_part place max message under_way queue).streams q).id u.stream_id.0) [
-        | inl e ↦
-            (let same : (stream_at queue.streams q).id ≡ (stream_at queue.streams place).id = sym (alike.ids q) ∙ e.1 ∙ same_stream ∙ sym id_is in
-            rw e.0 (subst (λ (l : List Waiting). AllBeyond f.place (drop 1 l)) (sym (alike.messages q)) (here q n f at (of ∙ alike.ids q) same)))
-        | inr e ↦
-            (let other : (stream_at queue.streams q).id ≢ (stream_at queue.streams place).id = λ same. e.1 (alike.ids q ∙ same ∙ id_is ∙ sym same_stream) in
-            rw e.0 (subst (λ (l : List Waiting). AllBeyond f.place l) (sym (alike.messages q)) (there q n f at (of ∙ alike.ids q) other)))
-      ]
+      new_room : weigh messages ≤ weigh (stream_at queue.streams t.place).messages → weigh messages + t.under_way.sent + 1 ≤ weigh (stream_at queue.streams t.place).messages + progress_size progress
+          → HasRoomForLog queued (Some piece ∷ log) new.streams
+      new_room lighter fits =
+          let weights = weight_changed t.place queue.streams new.streams p.one.sizes within p.one.others in
+          let here : weigh (stream_at new.streams t.place).messages ≡ weigh messages = ap weigh p.messages_are in
+          let sums = sum_changed (λ (s : Stream). progress_size s.under_way) t.place queue.streams new.streams p.one.sizes within p.one.others in
+          let there : progress_size (stream_at new.streams t.place).under_way ≡ progress_size progress = ap progress_size p.progress_is in
+          let old = t.sent in
+          let room = holds.room in
+          let whole : weight queue.streams ≤ _ = room.whole in
+          let count = room.count in
+          record { whole = omega (arith, weights, here, lighter, whole); count = omega (arith, weights, here, sums, there, old, count, fits) }
 
-  last_beyond : (q n : ℕ) (f : Piece) → at_place n (Some piece ∷ log) ≡ Some (Some f) → f.message.stream ≡ (stream_at (after_last place message under_way queue).streams q).id
-      → AllBeyond f.place (stream_at (after_last place message under_way queue).streams q).messages
-  last_beyond q n f at of =
-      elim (decide (stream_at queue.streams q).id (stream_at queue.streams place).id) [
-        | inl same ↦
-            elim (there_or_empty queue.streams q) [
-              | inr e ↦ shorter_beyond f.place q queue.streams (after_last place message under_way queue).streams shorter (none_beyond f.place (stream_at queue.streams q).messages e)
-              | inl below ↦
-                  (let is : q ≡ place = distinct q place below within same in
-                  let rest = here q n f at (of ∙ shorter.ids q) same in
-                  subst (λ (k : ℕ). AllBeyond f.place (stream_at (after_last place message under_way queue).streams k).messages) (sym is)
-                  (subst (λ (l : List Waiting). AllBeyond f.place l) (sym last_here) (subst (λ (k : ℕ). AllBeyond f.place (drop 1 (stream_at queue.streams k).messages)) is rest)))
-            ]
-        | inr other ↦ shorter_beyond f.place q queue.streams (after_last place message under_way queue).streams shorter (there q n f at (of ∙ shorter.ids q) other)
-      ]
-
-  last_room : HasRoomForLog queued (Some piece ∷ log) (after_last place message under_way queue).streams None
-  last_room =
-      let between = begun_numbered place message under_way (reduced_queue place (length message.payload - under_way.sent) queue) in
-      let alike' = numbered_reduced place (length message.payload - under_way.sent) message under_way queue in
-      let same = weight_same queue.streams between.streams alike'.sizes alike'.messages in
-      let left = weight_front between.streams place message (ap front_of (alike'.messages place) ∙ front) in
-      record { whole = omega (arith, same, left, roomy.whole); count = omega (arith, same, left, roomy.count, unfinished) }
-
-  part_room : (u : UnderWay) → u.sent ≡ under_way.sent + max → HasRoomForLog queued (Some piece ∷ log) (after_part place max message under_way queue).streams (Some u)
-  part_room u sent =
-      let same = weight_same queue.streams (after_part place max message under_way queue).streams alike.sizes alike.messages in
-      record { whole = omega (arith, same, roomy.whole); count = omega (arith, same, roomy.count, sent, has_room) }
-
-  next_going : UnderWay
-  next_going = record under_way { next_fsn = (under_way.next_fsn + 1) % 2 ^ 32; sent = under_way.sent + max }
-
-  pub it_hold : ((q : ℕ) → (stream_at queue.streams q).id < 2 ^ 16) → HoldsQueued queued (Some piece ∷ log) (queue_after_producing place max message under_way queue).streams (queue_after_producing place max message under_way queue).under_way
-  unfolding next_going
-  it_hold small = go (is_last max message under_way) refl
-    where
-      go : (b : Bool) → is_last max message under_way ≡ b
-          → HoldsQueued queued (Some piece ∷ log) (if b then after_last place message under_way queue else after_part place max message under_way queue).streams
-          (if b then after_last place message under_way queue else after_part place max message under_way queue).under_way
-      go true e =
+      new_hold : AllQueued queued (stream_at queue.streams t.place).id messages → Ascend messages → Going queued (Some piece ∷ log) (stream_at new.streams t.place) progress
+          → weigh messages ≤ weigh (stream_at queue.streams t.place).messages → weigh messages + t.under_way.sent + 1 ≤ weigh (stream_at queue.streams t.place).messages + progress_size progress
+          → HoldsQueued queued (Some piece ∷ log) new.streams
+      new_hold all up here lighter fits =
           record {
-            wait = wait_on queued queue.streams (after_last place message under_way queue).streams shorter wait;
-            ascend = ascend_on queue.streams (after_last place message under_way queue).streams shorter ascend;
-            beyond = last_beyond;
-            distinct = distinct_on queue.streams (after_last place message under_way queue).streams shorter distinct;
-            small = small_on queue.streams (after_last place message under_way queue).streams shorter small;
-            going = tt;
-            room = last_room;
+            wait = each_changed (λ (s : Stream). AllQueued queued s.id s.messages) t.place queue.streams new.streams p.one
+                (subst (λ (k : ℕ). AllQueued queued k (stream_at new.streams t.place).messages) (sym p.one.id) (subst (λ (l : List Waiting). AllQueued queued (stream_at queue.streams t.place).id l) (sym p.messages_are) all)) holds.wait;
+            ascend = each_changed (λ (s : Stream). Ascend s.messages) t.place queue.streams new.streams p.one (subst (λ (l : List Waiting). Ascend l) (sym p.messages_are) up) holds.ascend;
+            beyond = new_beyond;
+            distinct = changes_distinct t.place queue.streams new.streams p.one holds.distinct;
+            small = λ q. subst (λ (k : ℕ). k < 2 ^ 16) (sym (changes_ids t.place queue.streams new.streams p.one q)) (holds.small q);
+            going = new_going here;
+            room = new_room lighter fits;
           }
-      go false e =
-          record {
-            wait = wait_on queued queue.streams (after_part place max message under_way queue).streams (alike_is_shorter queue.streams (after_part place max message under_way queue).streams alike) wait;
-            ascend = ascend_on queue.streams (after_part place max message under_way queue).streams (alike_is_shorter queue.streams (after_part place max message under_way queue).streams alike) ascend;
-            beyond = part_beyond next_going refl;
-            distinct = distinct_on queue.streams (after_part place max message under_way queue).streams (alike_is_shorter queue.streams (after_part place max message under_way queue).streams alike) distinct;
-            small = small_on queue.streams (after_part place max message under_way queue).streams (alike_is_shorter queue.streams (after_part place max message under_way queue).streams alike) small;
-            going = part_going next_going refl refl refl refl e;
-            room = part_room next_going refl;
-          }
+
+    part_going : (new : SendQueueState) → Produces t.place t.waiting t.under_way (stream_at queue.streams t.place).messages (Some (progress_after max t.under_way)) queue new → max < length t.waiting.payload - t.under_way.sent
+        → Going queued (Some piece ∷ log) (stream_at new.streams t.place) (Some (progress_after max t.under_way))
+    part_going new p open_end =
+        let room = t.room in
+        let start = t.start in
+        let fsn = t.fsn in
+        let size = t.size in
+        record {
+          place = piece.place;
+          message = piece.message;
+          at = t.at;
+          unfinished = omega (arith, open_end, piece_lengths);
+          begun = omega (arith, room);
+          is = p.one.id ∙ t.is;
+          waiting = t.waiting;
+          front = ap front_of p.messages_are ∙ t.front;
+          named = t.named;
+          came = inr (record {
+            piece = piece;
+            at = newest_here t.under_way.stream_id.0 piece log (stream_is ∙ t.is);
+            is = refl;
+            says = refl;
+            end = omega (arith, start, size, open_end);
+            mid = t.mid;
+            fsn = omega (arith, fsn);
+          });
+        }
+
+    pub it_holds : (new : SendQueueState) → Leaves t.place max t.waiting t.under_way queue new → HoldsQueued queued (Some piece ∷ log) new.streams
+    it_holds new (part open_end p held) =
+        let room = t.room in
+        new_hold (stream_at queue.streams t.place).messages (Some (progress_after max t.under_way)) new p refl (holds.wait t.place) (holds.ascend t.place) (part_going new p open_end)
+        (omega arith) (omega (arith, room))
+    it_holds new (last all p held) =
+        let front = front_weighs (stream_at queue.streams t.place).messages t.waiting t.front in
+        let unfinished = t.unfinished in
+        new_hold (drop 1 (stream_at queue.streams t.place).messages) None new p refl (queued_drop queued (stream_at queue.streams t.place).id (stream_at queue.streams t.place).messages (holds.wait t.place))
+        (ascend_drop (stream_at queue.streams t.place).messages (holds.ascend t.place)) tt (omega (arith, front)) (omega (arith, front, unfinished))

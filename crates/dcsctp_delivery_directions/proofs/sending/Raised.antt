@@ -1,8 +1,8 @@
 -- What is in flight, and the resets that were begun, where floors are raised by a reset that was
 -- performed; and where nothing was done yet.
 use Rattle.std.proofs.Common.{ℕ, Bool, arith, inl, refl}
-use Rattle.std.specs.Prelude.{Option, None, Some}
-use Rattle.dcsctp_spec.specs.types.declared.sending.UnderWay.{UnderWay}
+use Rattle.std.specs.Prelude.{Option, None, Some, List}
+use Rattle.dcsctp_spec.specs.types.queues.SendStreams.{Stream}
 use Rattle.dcsctp_spec.specs.queues.Outstanding.{OutstandingState}
 use Rattle.dcsctp_spec.specs.queues.Sending.{Fragment}
 use Rattle.dcsctp_spec.specs.queues.Transfer.{Transfer}
@@ -34,15 +34,15 @@ pub pends_floors : (floors : ℕ → Bool → ℕ) (history : History) (transfer
 pends_floors floors history None pends = tt
 pends_floors floors history (Some transfer) pends = record { next = pends.next; none = pends.none }
 
-pub marks_floors : (floors : ℕ → Bool → ℕ) (history : History) (first : ℕ) (under_way : Option UnderWay) → AreMarks history first under_way → AreMarks (with_floors floors history) first under_way
-marks_floors floors history first under_way marks mark has =
+pub marks_floors : (floors : ℕ → Bool → ℕ) (history : History) (first : ℕ) (streams : List Stream) → AreMarks history first streams → AreMarks (with_floors floors history) first streams
+marks_floors floors history first streams marks mark has =
     let old = marks mark has in
     record { within = old.within; last = old.last; fields = old.fields; sides = old.sides; going = old.going }
 
 -- ---- no reset was begun yet
 
-pub marks_new : (floors : ℕ → Bool → ℕ) (first : ℕ) (under_way : Option UnderWay) → AreMarks (new_history floors) first under_way
-marks_new floors first under_way mark has = absurd has
+pub marks_new : (floors : ℕ → Bool → ℕ) (first : ℕ) (streams : List Stream) → AreMarks (new_history floors) first streams
+marks_new floors first streams mark has = absurd has
 
 pub pends_new : (floors : ℕ → Bool → ℕ) (transfer : Option Transfer) → PendsIfConnected (new_history floors) transfer
 pends_new floors None = tt

@@ -1,6 +1,7 @@
 -- What is queued and in flight stays as it was when a begun reset continues under another number.
 use Rattle.std.proofs.Common.{◌≡◌, ℕ, Bool, true, false, ◌<◌, ◌+◌, length, slice_get, sym, subst, inl, inr}
 use Rattle.std.specs.Prelude.{Option, None, Some, List}
+use Rattle.dcsctp_spec.specs.types.declared.ids.StreamId.{StreamId}
 use Rattle.dcsctp_spec.specs.types.declared.sending.UnderWay.{UnderWay}
 use Rattle.dcsctp_spec.specs.types.queues.SendStreams.{Stream}
 use Rattle.dcsctp_spec.specs.queues.Items.{Item}
@@ -10,7 +11,7 @@ use Rattle.dcsctp_spec.specs.queues.Sending.{Fragment}
 use Rattle.dcsctp_spec.specs.queues.Transfer.{Transfer, EndpointQueues}
 use Rattle.dcsctp_delivery_directions.specs.sending.Places.{HasEntry}
 use Rattle.dcsctp_delivery_directions.specs.sending.Log.{Message, Mark, mark_renewed, History, with_renewed, Resets}
-use Rattle.dcsctp_delivery_directions.specs.sending.Numbers.{LastIs, CountsByKind, NumbersMessages}
+use Rattle.dcsctp_delivery_directions.specs.sending.Numbers.{stream_named, LastIs, CountsByKind, NumbersMessages}
 use Rattle.dcsctp_delivery_directions.specs.sending.Flushes.{InFlight, PendsIfConnected, QueuesFollowLog}
 use Rattle.dcsctp_delivery_directions.specs.sending.Stages.{IsNamedFragment, Bears, IsMark, AreMarks}
 
@@ -58,21 +59,21 @@ module _ (history : History) (number : ℕ) (renewed : Mark) (known : HasEntry r
   pends_renewed None pends = tt
   pends_renewed (Some transfer) pends = record { next = of_each (λ mark. mark.bound ≡ length history.log → transfer.retransmission.reset_begun ≡ true) (λ is. is) pends.next; none = λ begun none. absurd (cc) }
 
-  marks_renewed : (first : ℕ) (under_way : Option UnderWay) → AreMarks history first under_way → AreMarks now first under_way
-  marks_renewed first under_way marks = of_each (IsMark now first under_way) (λ m. record { within = m.within; last = m.last; fields = m.fields; sides = m.sides; going = m.going })
+  marks_renewed : (first : ℕ) (streams : List Stream) → AreMarks history first streams → AreMarks now first streams
+  marks_renewed first streams marks = of_each (IsMark now first streams) (λ m. record { within = m.within; last = m.last; fields = m.fields; sides = m.sides; going = m.going })
       (λ mark has. (let m = marks mark has in record { within = m.within; last = m.last; fields = m.fields; sides = m.sides; going = m.going }))
 
-  last_renewed : (streams : List Stream) (counts : ℕ → Bool → ℕ) (under_way : Option UnderWay) → LastIs history streams counts under_way → LastIs now streams counts under_way
-  last_renewed streams counts None last = tt
-  last_renewed streams counts (Some under_way) l = record { waiting = l.waiting; front = l.front; mid = l.mid; is = l.is; from = l.from; last = l.last; came = l.came }
+  last_renewed : (streams : List Stream) (counts : ℕ → Bool → ℕ) (id : ℕ) (under_way : Option UnderWay) → LastIs history streams counts id under_way → LastIs now streams counts id under_way
+  last_renewed streams counts id None last = tt
+  last_renewed streams counts id (Some under_way) l = record { waiting = l.waiting; front = l.front; mid = l.mid; is = l.is; from = l.from; last = l.last; came = l.came }
 
-  counts_renewed : (is_interleaved : Bool) (streams : List Stream) (under_way : Option UnderWay) → CountsByKind is_interleaved history streams under_way → CountsByKind is_interleaved now streams under_way
-  counts_renewed false streams under_way c = record { turns = λ id start. c.turns id (record { floor = start.floor; none = λ mark has names. start.none mark (inr has) names }); closes = c.closes; rests = c.rests }
-  counts_renewed true streams under_way c =
-      record { counts = c.counts; few = c.few; next = c.next; below = c.below; apart = c.apart; going = last_renewed streams c.counts under_way c.going }
+  counts_renewed : (is_interleaved : Bool) (streams : List Stream) (held : Option StreamId) → CountsByKind is_interleaved history streams held → CountsByKind is_interleaved now streams held
+  counts_renewed false streams held c = record { turns = λ id start. c.turns id (record { floor = start.floor; none = λ mark has names. start.none mark (inr has) names }); closes = c.closes; rests = c.rests }
+  counts_renewed true streams held c =
+      record { counts = c.counts; few = c.few; next = c.next; below = c.below; apart = c.apart; going = λ id. last_renewed streams c.counts id (stream_named id streams).under_way (c.going id) }
 
   numbered_renewed : (queue : SendQueueState) → NumbersMessages history queue → NumbersMessages now queue
-  numbered_renewed queue n = record { kinds = n.kinds; counts = counts_renewed queue.is_interleaved queue.streams queue.under_way n.counts; kept = n.kept }
+  numbered_renewed queue n = record { kinds = n.kinds; counts = counts_renewed queue.is_interleaved queue.streams queue.held n.counts; kept = n.kept; whole = n.whole }
 
   pub below_renewed : (queued : List Message) (first acknowledged : ℕ) (below : EndpointQueues) → QueuesFollowLog queued history first acknowledged below → QueuesFollowLog queued now first acknowledged below
   below_renewed queued first acknowledged below b =
@@ -81,7 +82,7 @@ module _ (history : History) (number : ℕ) (renewed : Mark) (known : HasEntry r
         cut = b.cut;
         flight = flight_renewed first acknowledged below.transfer b.flight;
         pends = pends_renewed below.transfer b.pends;
-        marks = marks_renewed first below.queue.under_way b.marks;
+        marks = marks_renewed first below.queue.streams b.marks;
         numbers = numbered_renewed below.queue b.numbers;
         kind = b.kind;
       }

@@ -10,7 +10,7 @@ use Rattle.dcsctp_spec.specs.queues.Outstanding.{OutstandingState}
 use Rattle.dcsctp_spec.specs.queues.SendQueue.{SendQueueState}
 use Rattle.dcsctp_spec.specs.queues.Sending.{Fragment}
 use Rattle.dcsctp_delivery_directions.specs.sending.Places.{at_place}
-use Rattle.dcsctp_delivery_directions.specs.sending.Log.{Message, Piece, Slot, IsPiece, HasBefore, IsLogOfPieces, History, with_slot}
+use Rattle.dcsctp_delivery_directions.specs.sending.Log.{Message, Piece, Slot, IsPiece, HasBefore, HasEarlier, IsLogOfPieces, History, with_slot}
 use Rattle.dcsctp_delivery_directions.specs.sending.Pieces.{HandsOutPiece}
 use Rattle.dcsctp_delivery_directions.specs.sending.Stages.{SaysSlot, SaysTsn, IsNamedFragment, IsOfLimited, IsAbandonedItem, AreMessagesWhole, Bears, Pends}
 use Rattle.dcsctp_delivery_directions.proofs.sending.Limits.{Leaves, limited_stays}
@@ -25,15 +25,42 @@ with_none log n f at =
       | inr old ↦ old
     ]
 
-before_stays : (slot : Slot) (log : List Slot) (n : ℕ) (f : Piece) → HasBefore log n f → HasBefore (slot ∷ log) n f
-before_stays slot log n f b =
-    record { earlier = b.earlier; is = b.is; before = b.before; at = at_stays b.earlier slot (Some b.before) log b.at; start = b.start; place = b.place; message = b.message; mid = b.mid; fsn = b.fsn }
+before_stays : (slot : Slot) (log : List Slot) (n : ℕ) (f : Piece) → n ≤ length log → HasBefore log n f → HasBefore (slot ∷ log) n f
+before_stays slot log n f up b =
+    record {
+      earlier = b.earlier;
+      is = b.is;
+      near = b.near;
+      apart = λ k g past below at on. b.apart k g past below (sym (at_old k slot log (omega (arith, below, up))) ∙ at) on;
+      before = b.before;
+      at = at_stays b.earlier slot (Some b.before) log b.at;
+      start = b.start;
+      place = b.place;
+      message = b.message;
+      mid = b.mid;
+      fsn = b.fsn;
+    }
+
+earlier_was : (slot : Slot) (log : List Slot) (n : ℕ) (f : Piece) → n ≤ length log → HasEarlier (slot ∷ log) n f → HasEarlier log n f
+earlier_was slot log n f up earlier =
+    elim earlier [
+      | inl row ↦ inl row
+      | inr after ↦ (let less = after.is in inr (record { earlier = after.earlier; piece = after.piece; is = after.is; at = sym (at_old after.earlier slot log (omega (arith, less, up))) ∙ after.at; on = after.on }))
+    ]
+
+-- a row that goes on in a longer log
+rows_stay : (slot : Slot) (log : List Slot) (n : ℕ) (f : Piece) → n ≤ length log → (HasEarlier log n f → HasBefore log n f) → HasEarlier (slot ∷ log) n f → HasBefore (slot ∷ log) n f
+rows_stay slot log n f up row earlier = before_stays slot log n f up (row (earlier_was slot log n f up earlier))
 
 pub cut_none : (queued : List Message) (log : List Slot) → ((n : ℕ) (f : Piece) → at_place n log ≡ Some (Some f) → n + 1 ≡ length log → f.message.is_limited ≡ true) → IsLogOfPieces queued log → IsLogOfPieces queued (None ∷ log)
 cut_none queued log newest_limited cut =
     record {
       pieces = λ n f at. cut.pieces n f (with_none log n f at);
-      rows = λ n f some at started. before_stays None log n f (cut.rows n f some (with_none log n f at) started);
+      rows = λ n f at started earlier. (
+          let at' = with_none log n f at in
+          let low = at_below n (Some f) log at' in
+          rows_stay None log n f (omega (arith, low)) (cut.rows n f at' started) earlier
+          );
       ascends = λ m n f g less at at'. cut.ascends m n f g less (with_none log m f at) (with_none log n g at');
       climbs = λ m n f g less at at'. cut.climbs m n f g less (with_none log m f at) (with_none log n g at');
       shuts = λ n f at at'. elim (at_cases (n + 1) None None log at') [
@@ -49,14 +76,16 @@ cut_more queued history part new handed cut =
         | inl e ↦ (let same : handed.piece ≡ f = cc in subst (λ (g : Piece). IsPiece queued g) same handed.is_piece)
         | inr old ↦ cut.pieces n f old
       ];
-      rows = λ n f some at started. elim (at_cases n (Some handed.piece) (Some f) history.log at) [
+      rows = λ n f at started earlier. elim (at_cases n (Some handed.piece) (Some f) history.log at) [
         | inl e ↦
             (let same : handed.piece ≡ f = cc in
             let here : n ≡ length history.log = e.0 in
-            subst (λ (k : ℕ). HasBefore (Some handed.piece ∷ history.log) k f) (sym here)
-            (subst (λ (g : Piece). HasBefore (Some handed.piece ∷ history.log) (length history.log) g) same
-            (before_stays (Some handed.piece) history.log (length history.log) handed.piece (handed.row (omega arith) (subst (λ (g : Piece). 0 < g.start) (sym same) started)))))
-        | inr old ↦ before_stays (Some handed.piece) history.log n f (cut.rows n f some old started)
+            rows_stay (Some handed.piece) history.log n f (omega (arith, here))
+            (λ before. subst (λ (k : ℕ). HasBefore history.log k f) (sym here)
+            (subst (λ (g : Piece). HasBefore history.log (length history.log) g) same
+            (handed.row (subst (λ (g : Piece). 0 < g.start) (sym same) started)
+            (subst (λ (g : Piece). HasEarlier history.log (length history.log) g) (sym same) (subst (λ (k : ℕ). HasEarlier history.log k f) here before))))) earlier)
+        | inr old ↦ (let low = at_below n (Some f) history.log old in rows_stay (Some handed.piece) history.log n f (omega (arith, low)) (cut.rows n f old started) earlier)
       ];
       ascends = λ m n f g less at at' starts on. elim (at_cases n (Some handed.piece) (Some g) history.log at') [
         | inl e ↦

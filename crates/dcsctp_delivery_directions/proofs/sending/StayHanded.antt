@@ -48,7 +48,7 @@ changed_stay other f ids stays streams id =
 
 used_stay : (queue : SendQueueState) (other : ℕ) → StayHanded queue.streams (used_streams queue other)
 unfolding StaysHanded
-used_stay queue other id = found_used StaysHanded id queue other (λ s h. h) (λ s t unordered ordered none pause h. ap is_handed_out pause ∙ h)
+used_stay queue other id = found_used StaysHanded id queue other (λ s h. h) (λ s t unused h. ap is_handed_out unused.pause ∙ h)
 
 -- ---- what the user does
 
@@ -97,7 +97,7 @@ prepared_stays other queue id handed = go (is_open_pause (queue_stream start oth
 
     go : (b : Bool) → is_open_pause (queue_stream start other).pause ≡ b → IsHanded (stream_named id (if b then prepared_open other start else start).streams)
     go true opened =
-        elsewhere_stays other (prepared_stream (dropped_size other start) (count_under_way other start.under_way)) start.streams id (λ s. refl)
+        elsewhere_stays other (prepared_stream (dropped_size other start) (count_under_way (queue_stream start other))) start.streams id (λ s. refl)
         (λ same. open_not_handed (unused_stream other start.default_priority start.default_threshold) other start.streams opened (subst (λ (k : ℕ). IsHanded (stream_named k start.streams)) same (used_stay queue other id handed)))
         (used_stay queue other id handed)
     go false shut = used_stay queue other id handed
@@ -230,8 +230,8 @@ pub begun_handed : (ask : Ask) (follows : Bool) (held : Option Held) (room last_
 begun_handed ask follows held room last_tsn queue None is small = tt
 begun_handed ask follows held room last_tsn queue (Some begun) is small = λ id names.
     let ids : List ℕ = take (streams_within room) (ready_streams queue) in
-    let named : is_named ids id ≡ true = field_named ids id (front_small (streams_within room) (ready_streams queue) (ready_small (is_ready queue.under_way) queue.streams small)) (begun_names ask follows held room last_tsn queue begun is id names) in
-    (named, named_handed ids queue.streams id named (named_used (is_ready queue.under_way) queue.streams id (named_front (streams_within room) (ready_streams queue) id named)))
+    let named : is_named ids id ≡ true = field_named ids id (front_small (streams_within room) (ready_streams queue) (ready_small is_ready queue.streams small)) (begun_names ask follows held room last_tsn queue begun is id names) in
+    (named, named_handed ids queue.streams id named (named_used is_ready queue.streams id (named_front (streams_within room) (ready_streams queue) id named)))
 
 -- They stay so.
 pub handed_for_later : (begun : Option BegunReset) (ids : List ℕ) (before after : List Stream) → StayHanded before after → AreHandedFor begun ids before → AreHandedFor begun ids after

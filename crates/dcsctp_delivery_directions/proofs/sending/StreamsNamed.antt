@@ -1,10 +1,20 @@
 -- Streams by their numbers.
 use Rattle.std.proofs.Common.{◌≡◌, ◌≢◌, ◌==◌, ℕ, zero, suc, Bool, true, false, ◌<◌, List, [], ◌∷◌, length, map, refl, sym, ◌∙◌, ap, arith, subst, inl, inr}
-use Rattle.std.specs.Prelude.{◌||◌, nat_lt, slice_set, if◌then◌else◌}
+use Rattle.std.specs.Prelude.{◌||◌, ◌⊎◌, None, is_some, nat_lt, slice_set, if◌then◌else◌}
 use Rattle.std.proofs.lemmas.Bool.Decides.{eqb_tells}
 use Rattle.dcsctp_spec.specs.types.queues.SendStreams.{Stream, stream_at, unused_stream, next_numbers}
 use Rattle.dcsctp_spec.specs.queues.SendQueue.{SendQueueState, stream_found, with_stream, is_used, used_streams}
 use Rattle.dcsctp_delivery_directions.specs.sending.Numbers.{stream_named}
+
+-- Neither stream was ever used.
+pub record AreUnused (s t : Stream) : Type 0 where
+  pub unordered : next_numbers true s ≡ next_numbers true t
+  pub ordered : next_numbers false s ≡ next_numbers false t
+  pub none : s.messages ≡ []
+  pub none_then : t.messages ≡ []
+  pub pause : t.pause ≡ s.pause
+  pub idle : s.under_way ≡ None
+  pub idle_then : t.under_way ≡ None
 
 -- Whatever holds of each stream and what becomes of it, holds of the one that is found.
 module _ (P : Stream → Stream → Type 0) (id : ℕ) where
@@ -65,14 +75,15 @@ module _ (P : Stream → Stream → Type 0) (id : ℕ) where
             | inr e ↦ rw e.0 (each (stream_found d id (s ∷ streams)))
           ]
 
-  pub found_used : (queue : SendQueueState) (other : ℕ) → ((s : Stream) → P s s) → ((s t : Stream) → next_numbers true s ≡ next_numbers true t → next_numbers false s ≡ next_numbers false t → s.messages ≡ [] → t.pause ≡ s.pause → P s t)
+  pub found_used : (queue : SendQueueState) (other : ℕ) → ((s : Stream) → P s s) → ((s t : Stream) → AreUnused s t → P s t)
       → P (stream_named id queue.streams) (stream_named id (used_streams queue other))
   found_used queue other each fresh = go (is_used other queue.streams) refl
     where
       go : (b : Bool) → is_used other queue.streams ≡ b
           → P (stream_named id queue.streams) (stream_named id (if b then queue.streams else with_stream (unused_stream other queue.default_priority queue.default_threshold) queue.streams))
       go true e = each (stream_named id queue.streams)
-      go false e = found_inserted (unused_stream 0 0 0) (unused_stream other queue.default_priority queue.default_threshold) each (fresh (unused_stream 0 0 0) (unused_stream other queue.default_priority queue.default_threshold) refl refl refl refl) queue.streams e
+      go false e = found_inserted (unused_stream 0 0 0) (unused_stream other queue.default_priority queue.default_threshold) each (fresh (unused_stream 0 0 0) (unused_stream other queue.default_priority queue.default_threshold)
+          (record { unordered = refl; ordered = refl; none = refl; none_then = refl; pause = refl; idle = refl; idle_then = refl })) queue.streams e
 
 -- the first stream with a number is the one at this place, if numbers are distinct
 pub found_at : (d : Stream) (place : ℕ) (streams : List Stream) → place < length streams
@@ -85,3 +96,53 @@ found_at d (suc place) (s ∷ streams) within distinct =
       | inl e ↦ (let clash : zero ≡ suc place = distinct zero (suc place) (omega arith) within e.1 in absurd (omega arith))
       | inr e ↦ rw e.0 (found_at d place streams (omega arith) (λ p q below below' same. (let is : suc p ≡ suc q = distinct (suc p) (suc q) (omega arith) (omega arith) same in omega arith)))
     ]
+
+-- the stream that is found is at some place, or is the default
+pub found_place : (d : Stream) (id : ℕ) (streams : List Stream) → ((q : ℕ) × (q < length streams) × ((stream_at streams q).id ≡ id) × (stream_found d id streams ≡ stream_at streams q)) ⊎ (stream_found d id streams ≡ d)
+found_place d id [] = inr refl
+found_place d id (s ∷ streams) =
+    elim (eqb_tells s.id id) [
+      | inl e ↦ inl (zero, omega arith, e.1, rw e.0 refl)
+      | inr e ↦
+          elim (found_place d id streams) [
+            | inl t ↦ (let (q, within, is, same) = t in inl (suc q, omega (arith, within), is, rw e.0 same))
+            | inr none ↦ inr (rw e.0 none)
+          ]
+    ]
+
+-- a stream with a message under way is at some place
+pub named_place : (id : ℕ) (streams : List Stream) → is_some (stream_named id streams).under_way ≡ true → (q : ℕ) × (q < length streams) × ((stream_at streams q).id ≡ id) × (stream_named id streams ≡ stream_at streams q)
+named_place id streams some =
+    elim (found_place (unused_stream 0 0 0) id streams) [
+      | inl t ↦ t
+      | inr none ↦ (let clash : false ≡ true = sym (ap (λ (s : Stream). is_some s.under_way) none) ∙ some in absurd (cc))
+    ]
+
+-- what streams of no list have in common, the one that is found has
+pub found_default : {A : Type 0} (its : Stream → A) (d e : Stream) → its d ≡ its e → (id : ℕ) (streams : List Stream) → its (stream_found d id streams) ≡ its (stream_found e id streams)
+found_default its d e same id [] = same
+found_default its d e same id (s ∷ streams) =
+    elim (eqb_tells s.id id) [
+      | inl t ↦ rw t.0 refl
+      | inr t ↦ rw t.0 (found_default its d e same id streams)
+    ]
+
+-- each stream is changed, so the one that is found is
+pub found_map : (d : Stream) (f : Stream → Stream) → ((s : Stream) → (f s).id ≡ s.id) → f d ≡ d → (id : ℕ) (streams : List Stream) → stream_found d id (map f streams) ≡ f (stream_found d id streams)
+found_map d f same none id [] = sym none
+found_map d f same none id (s ∷ streams) =
+    elim (eqb_tells s.id id) [
+      | inl e ↦ rw e.0 (rw (ap (λ (k : ℕ). k == id) (same s) ∙ e.0) refl)
+      | inr e ↦ rw e.0 (rw (ap (λ (k : ℕ). k == id) (same s) ∙ e.0) (found_map d f same none id streams))
+    ]
+
+-- what each stream keeps, the one at a place keeps
+pub at_mapped : {A : Type 0} (its : Stream → A) (f : Stream → Stream) → ((s : Stream) → its (f s) ≡ its s) → (streams : List Stream) (q : ℕ) → its (stream_at (map f streams) q) ≡ its (stream_at streams q)
+at_mapped its f same [] zero = refl
+at_mapped its f same [] (suc q) = refl
+at_mapped its f same (s ∷ streams) zero = same s
+at_mapped its f same (s ∷ streams) (suc q) = at_mapped its f same streams q
+
+pub size_mapped : (f : Stream → Stream) (streams : List Stream) → length (map f streams) ≡ length streams
+size_mapped f [] = refl
+size_mapped f (s ∷ streams) = ap suc (size_mapped f streams)

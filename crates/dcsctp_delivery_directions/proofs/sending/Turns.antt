@@ -1,6 +1,6 @@
 -- How many ordered messages of a stream were begun.
 use Rattle.std.proofs.Common.{◌≡◌, ◌==◌, ℕ, suc, Bool, true, false, ◌<◌, ◌+◌, ◌%◌, ◌^◌, List, [], ◌∷◌, ◌++◌, length, refl, sym, ◌∙◌, ap, arith, subst, inl, inr}
-use Rattle.std.specs.Prelude.{◌&&◌, not, Option, None, Some, if◌then◌else◌}
+use Rattle.std.specs.Prelude.{◌&&◌, not, None, Some, if◌then◌else◌}
 use Rattle.std.proofs.lemmas.Bool.{eq-eqb}
 use Rattle.std.proofs.lemmas.Bool.Decides.{eqb_tells}
 use Rattle.dcsctp_spec.specs.types.declared.sending.UnderWay.{UnderWay}
@@ -57,12 +57,12 @@ none_begun id (Some piece ∷ log) unsent =
 
 -- ---- one more piece
 
-pub turns_with : (id : ℕ) (log : List Slot) (piece : Piece) (old new : List Stream) (u v : Option UnderWay) → CountsTurns id log old u
+pub turns_with : (id : ℕ) (log : List Slot) (piece : Piece) (old new : List Stream) → CountsTurns id log old
     → (stream_named id new).next_ssn % 2 ^ 16 ≡ begun_on id (Some piece ∷ log) % 2 ^ 16
     → (piece.message.stream ≡ id → piece.message.is_unordered ≡ false → IsSsnOfTurn piece.ssn (begun_on id (Some piece ∷ log)))
-    → ((w : UnderWay) → v ≡ Some w → w.stream_id.0 ≡ id → GoesInTurn id (Some piece ∷ log) new w)
-    → CountsTurns id (Some piece ∷ log) new v
-turns_with id log piece old new u v c next its goes =
+    → ((w : UnderWay) → (stream_named id new).under_way ≡ Some w → GoesInTurn id (Some piece ∷ log) new w)
+    → CountsTurns id (Some piece ∷ log) new
+turns_with id log piece old new c next its goes =
     record {
       next = next;
       sent = λ n f at on ordered. elim (at_cases n (Some piece) (Some f) log at) [

@@ -1,7 +1,8 @@
 -- How much waits.
 use Rattle.std.proofs.Common.{◌≡◌, ◌≢◌, ◌==◌, ℕ, zero, suc, Bool, true, false, ◌<◌, ◌+◌, ◌≤◌, List, [], ◌∷◌, ◌++◌, length, take, drop, refl, sym, ◌∙◌, ap, arith, inl, inr}
-use Rattle.std.specs.Prelude.{◌⊎◌, Some, nat_lt, slice_set, if◌then◌else◌}
+use Rattle.std.specs.Prelude.{◌⊎◌, Some, nat_lt, slice_set, sum_by, if◌then◌else◌}
 use Rattle.std.proofs.lemmas.Bool.Decides.{eqb_tells}
+use Rattle.std.proofs.lemmas.List.Sums.{sum_by-cons}
 use Rattle.dcsctp_spec.specs.types.queues.SendStreams.{Waiting, Stream, front_of, without_front, stream_at, with_message}
 use Rattle.dcsctp_spec.specs.queues.OwnResets.{prepared_stream}
 use Rattle.dcsctp_spec.specs.queues.SendQueue.{stream_changed, with_stream}
@@ -16,7 +17,7 @@ weight_same (s ∷ old) (t ∷ new) sizes same =
     let rest : weight new ≡ weight old = weight_same old new (omega (arith, sizes)) (λ q. same (suc q)) in
     omega (arith, first, rest)
 
-weigh_drop : (messages : List Waiting) → weigh (drop 1 messages) ≤ weigh messages
+pub weigh_drop : (messages : List Waiting) → weigh (drop 1 messages) ≤ weigh messages
 weigh_drop [] = omega arith
 weigh_drop (w ∷ messages) = omega arith
 
@@ -38,7 +39,7 @@ weight_less (s ∷ old) (t ∷ new) sizes less =
     omega (arith, first, rest)
 
 -- the oldest message leaves
-front_weighs : (messages : List Waiting) (w : Waiting) → front_of messages ≡ Some w → weigh (drop 1 messages) + suc (length w.payload) ≡ weigh messages
+pub front_weighs : (messages : List Waiting) (w : Waiting) → front_of messages ≡ Some w → weigh (drop 1 messages) + suc (length w.payload) ≡ weigh messages
 front_weighs [] w e = absurd (cc)
 front_weighs (v ∷ messages) w e =
     let same : v ≡ w = cc in
@@ -112,3 +113,40 @@ weight_prepared id size kept (s ∷ l) = go (s.id == id) (weight_prepared id siz
     go : (b : Bool) → weight (stream_changed id (prepared_stream size kept) l) ≤ weight l → weigh (if b then prepared_stream size kept s else s).messages + weight (stream_changed id (prepared_stream size kept) l) ≤ weigh s.messages + weight l
     go true rest = (let first = weigh_take kept s.messages in omega (arith, rest, first))
     go false rest = omega (arith, rest)
+
+-- ---- one stream changes
+
+sum_same : (f : Stream → ℕ) (old new : List Stream) → length new ≡ length old → ((q : ℕ) → stream_at new q ≡ stream_at old q) → sum_by f new ≡ sum_by f old
+sum_same f [] [] sizes same = refl
+sum_same f [] (t ∷ new) sizes same = absurd (omega arith)
+sum_same f (s ∷ old) [] sizes same = absurd (omega arith)
+sum_same f (s ∷ old) (t ∷ new) sizes same =
+    let first : f t ≡ f s = ap f (same 0) in
+    let rest : sum_by f new ≡ sum_by f old = sum_same f old new (omega (arith, sizes)) (λ q. same (suc q)) in
+    sum_by-cons f t new ∙ ap (λ (k : ℕ). k + sum_by f new) first ∙ ap (λ (k : ℕ). f s + k) rest ∙ sym (sum_by-cons f s old)
+
+pub sum_changed : (f : Stream → ℕ) (place : ℕ) (old new : List Stream) → length new ≡ length old → place < length old → ((q : ℕ) → q ≢ place → stream_at new q ≡ stream_at old q)
+    → sum_by f new + f (stream_at old place) ≡ sum_by f old + f (stream_at new place)
+sum_changed f place [] new sizes within others = absurd (omega arith)
+sum_changed f place (s ∷ old) [] sizes within others = absurd (omega arith)
+sum_changed f zero (s ∷ old) (t ∷ new) sizes within others =
+    let rest : sum_by f new ≡ sum_by f old = sum_same f old new (omega (arith, sizes)) (λ q. others (suc q) (λ is. absurd (omega (arith, is)))) in
+    let a = sum_by-cons f t new in
+    let b = sum_by-cons f s old in
+    omega (arith, a, b, rest)
+sum_changed f (suc place) (s ∷ old) (t ∷ new) sizes within others =
+    let first : f t ≡ f s = ap f (others 0 (λ is. absurd (omega (arith, is)))) in
+    let rest = sum_changed f place old new (omega (arith, sizes)) (omega (arith, within)) (λ q other. others (suc q) (λ is. other (omega (arith, is)))) in
+    let a = sum_by-cons f t new in
+    let b = sum_by-cons f s old in
+    omega (arith, a, b, first, rest)
+
+weight_sum : (l : List Stream) → weight l ≡ sum_by (λ (s : Stream). weigh s.messages) l
+weight_sum [] = refl
+weight_sum (s ∷ l) = ap (λ (k : ℕ). weigh s.messages + k) (weight_sum l) ∙ sym (sum_by-cons (λ (t : Stream). weigh t.messages) s l)
+
+pub weight_changed : (place : ℕ) (old new : List Stream) → length new ≡ length old → place < length old → ((q : ℕ) → q ≢ place → stream_at new q ≡ stream_at old q)
+    → weight new + weigh (stream_at old place).messages ≡ weight old + weigh (stream_at new place).messages
+weight_changed place old new sizes within others =
+    ap (λ (k : ℕ). k + weigh (stream_at old place).messages) (weight_sum new) ∙ sum_changed (λ (s : Stream). weigh s.messages) place old new sizes within others
+    ∙ ap (λ (k : ℕ). k + weigh (stream_at new place).messages) (sym (weight_sum old))

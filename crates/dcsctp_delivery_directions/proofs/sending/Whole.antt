@@ -1,11 +1,13 @@
 -- Without interleaving messages are abandoned as a whole: what is in flight of them, and what waits.
 use Rattle.std.proofs.Common.{◌≡◌, ℕ, zero, suc, Bool, true, false, ◌<◌, ◌≤◌, ◌+◌, ◌^◌, List, [], ◌∷◌, ◌++◌, length, refl, sym, ◌∙◌, ap, arith, subst, inl, inr}
-use Rattle.std.specs.Prelude.{◌⊎◌, Option, None, Some, slice_get}
+use Rattle.std.specs.Prelude.{◌⊎◌, Option, None, Some, is_some, slice_get}
+use Rattle.std.proofs.lemmas.Bool.{eq-eqb}
 use Rattle.std.proofs.lemmas.Bool.Decides.{eqb_tells, leb_tells}
 use Rattle.std.proofs.lemmas.List.{length-append}
 use Rattle.dcsctp_spec.specs.types.declared.progress.Change.{Change}
 use Rattle.dcsctp_spec.specs.types.declared.progress.Change.TheVariants.{Abandon}
 use Rattle.dcsctp_spec.specs.types.declared.progress.Progress.{Progress}
+use Rattle.dcsctp_spec.specs.types.declared.ids.StreamId.{StreamId}
 use Rattle.dcsctp_spec.specs.types.declared.sending.UnderWay.{UnderWay}
 use Rattle.dcsctp_spec.specs.types.queues.Progress.{is_abandoned, progress_changed}
 use Rattle.dcsctp_spec.specs.queues.Filling.{Stage, ClosesMessage, GivesUpItem}
@@ -14,15 +16,15 @@ use Rattle.dcsctp_spec.specs.queues.Items.{Item, changed_item, changed_between}
 use Rattle.dcsctp_spec.specs.queues.Outstanding.{OutstandingState}
 use Rattle.dcsctp_spec.specs.queues.SendQueue.{SendQueueState}
 use Rattle.dcsctp_spec.specs.queues.Sending.{Fragment, DiscardsNamed, IsMessageUnderWay}
-use Rattle.dcsctp_spec.specs.types.queues.SendStreams.{stream_at}
+use Rattle.dcsctp_spec.specs.types.queues.SendStreams.{Stream, stream_at}
 use Rattle.dcsctp_delivery_directions.specs.sending.Places.{at_place}
-use Rattle.dcsctp_delivery_directions.specs.sending.Log.{Message, Piece, Slot, History, newest, with_slot}
+use Rattle.dcsctp_delivery_directions.specs.sending.Log.{Message, Piece, Slot, History, newest, newest_on, IsNewestOn, IsInRow, with_slot}
 use Rattle.dcsctp_delivery_directions.specs.sending.Numbers.{CountsSsns, CountsByKind}
-use Rattle.dcsctp_delivery_directions.specs.sending.Pieces.{HandsOutPiece, IsGoing, HoldsQueued, CarriesPiece}
+use Rattle.dcsctp_delivery_directions.specs.sending.Pieces.{HandsOutPiece, Going, CarriesPiece}
 use Rattle.dcsctp_delivery_directions.specs.sending.Stages.{SaysSlot, SaysTsn, IsAbandonedItem, AreMessagesWhole, Bears, Stands}
 use Rattle.dcsctp_delivery_directions.proofs.sending.Places.{at_new, at_stays}
 use Rattle.dcsctp_delivery_directions.proofs.sending.Stages.{item_at, abandoned_still, whole_changed}
-use Rattle.dcsctp_delivery_directions.proofs.sending.Streams.{front_queued}
+use Rattle.dcsctp_delivery_directions.proofs.sending.StreamsNamed.{named_place}
 
 -- ---- a new item continues the message of the last one
 
@@ -44,15 +46,17 @@ continues queued history first acknowledged outstanding b plain none part new ha
     let next : acknowledged + k + 1 ≡ length history.log = omega (arith, count, is_last) in
     elim (eqb_tells handed.piece.start 0) [
       | inl e ↦
-          (let c : CountsSsns (with_slot (Some handed.piece) history) new.streams new.under_way = subst (λ (x : Bool). CountsByKind x (with_slot (Some handed.piece) history) new.streams new.under_way) kind handed.numbers.counts in
+          (let c : CountsSsns (with_slot (Some handed.piece) history) new.streams new.held = subst (λ (x : Bool). CountsByKind x (with_slot (Some handed.piece) history) new.streams new.held) kind handed.numbers.counts in
           let end = c.closes (acknowledged + k) f handed.piece (at_stays (acknowledged + k) (Some handed.piece) (Some f) history.log there)
           (subst (λ (n : ℕ). at_place n (Some handed.piece ∷ history.log) ≡ Some (Some handed.piece)) (sym next) (at_new (Some handed.piece) history.log)) e.1 in
           absurd (let clash : true ≡ false = sym end ∙ sym says.end ∙ unended in cc))
       | inr e ↦
           (let ne : handed.piece.start ≡ 0 → ⊥ = e.1 in
-          let before = handed.row (omega (arith, next)) (omega (arith, ne)) in
-          let earlier = before.is in
-          let here : before.earlier ≡ acknowledged + k = omega (arith, earlier, next) in
+          let row : IsInRow handed.piece = inl (handed.numbers.kinds (length history.log) handed.piece (at_new (Some handed.piece) history.log) ∙ kind) in
+          let some : 0 < length history.log = omega (arith, next) in
+          let before = handed.row (omega (arith, ne)) (inl (row, some)) in
+          let near = before.near row in
+          let here : before.earlier ≡ acknowledged + k = omega (arith, near, next) in
           let both : Some (Some before.before) ≡ Some (Some f) = sym (subst (λ (n : ℕ). at_place n history.log ≡ Some (Some before.before)) here before.at) ∙ there in
           let same : before.before ≡ f = cc in
           handed.says.named ∙ sym before.place ∙ ap (λ (x : Piece). x.place) same ∙ sym says.named)
@@ -98,11 +102,24 @@ at_newest (s ∷ log) k slot at is =
     let here : k ≡ length log = omega (arith, is) in
     sym (at_new s log) ∙ ap (λ (n : ℕ). at_place n (s ∷ log)) (sym here) ∙ at
 
+-- the newest TSN carries a piece of the stream, so that is the newest of it
+newest_stream : (log : List Slot) (id : ℕ) (f : Piece) → newest log ≡ Some (Some f) → f.message.stream ≡ id → newest_on id log ≡ Some f
+newest_stream [] id f is on = absurd (cc)
+newest_stream (None ∷ log) id f is on = absurd (cc)
+newest_stream (Some g ∷ log) id f is on =
+    let same : g ≡ f = cc in
+    rw (eq-eqb g.message.stream id (ap (λ (x : Piece). x.message.stream) same ∙ on)) (ap Some same)
+
+newest_is_on : (log : List Slot) (id : ℕ) (f : Piece) → newest log ≡ Some (Some f) → IsNewestOn id log → f.message.stream ≡ id
+newest_is_on [] id f is on = absurd (cc)
+newest_is_on (None ∷ log) id f is on = absurd on
+newest_is_on (Some g ∷ log) id f is on = (let same : g ≡ f = cc in ap (λ (x : Piece). x.message.stream) (sym same) ∙ on)
+
 -- What waits of a message is under way, if the last item is of it and doesn't end it.
 under_way_still : (queued : List Message) (history : History) (first acknowledged : ℕ) (old : Stage) → Stands queued history first acknowledged old → old.queue.outstanding.is_interleaved ≡ false → history.marks ≡ []
     → (k : ℕ) (last : Item) → slice_get old.queue.outstanding.items k ≡ Some last → k + 1 ≡ length old.queue.outstanding.items → last.fragment.is_end ≡ false
     → IsMessageUnderWay old.waiting last.fragment.stream last.fragment.message_id
-under_way_still queued history first acknowledged old stands plain none k last at is_last unended = go old.waiting.under_way refl
+under_way_still queued history first acknowledged old stands plain none k last at is_last unended = by_held old.waiting.held refl
   where
     found : (f : Piece) × (at_place (acknowledged + k) history.log ≡ Some (Some f)) × CarriesPiece last.fragment f
     found = piece_at history acknowledged k last old.queue.outstanding.items (stands.bears.whole plain none) at unended (stands.bears.items k last at)
@@ -110,38 +127,39 @@ under_way_still queued history first acknowledged old stands plain none k last a
     is_newest : newest history.log ≡ Some (Some found.0)
     is_newest = (let count = stands.bears.count in at_newest history.log (acknowledged + k) (Some found.0) found.1 (omega (arith, count, is_last)))
 
-    counts : CountsSsns history old.waiting.streams old.waiting.under_way
-    counts = subst (λ (x : Bool). CountsByKind x history old.waiting.streams old.waiting.under_way) (sym stands.kind ∙ plain) stands.numbers.counts
+    counts : CountsSsns history old.waiting.streams old.waiting.held
+    counts = subst (λ (x : Bool). CountsByKind x history old.waiting.streams old.waiting.held) (sym stands.kind ∙ plain) stands.numbers.counts
 
-    go : (u : Option UnderWay) → old.waiting.under_way ≡ u → IsMessageUnderWay old.waiting last.fragment.stream last.fragment.message_id
-    go None is = absurd (let end = counts.rests is found.0 is_newest in let clash : true ≡ false = sym end ∙ sym found.2.end ∙ unended in cc)
-    go (Some u) is =
-        let going : HoldsQueued queued history.log old.waiting.streams (Some u) = subst (λ (x : Option UnderWay). HoldsQueued queued history.log old.waiting.streams x) is stands.queue_holds in
-        let g : IsGoing queued history.log old.waiting.streams u = going.going in
+    -- the message under way on the stream at this place, which the newest piece is of
+    by_place : (q : ℕ) (u : Option UnderWay) → (stream_at old.waiting.streams q).under_way ≡ u → is_some u ≡ true → q < length old.waiting.streams → (stream_at old.waiting.streams q).id ≡ found.0.message.stream
+        → Going queued history.log (stream_at old.waiting.streams q) u → IsMessageUnderWay old.waiting last.fragment.stream last.fragment.message_id
+    by_place q None is some within on g = absurd (cc)
+    by_place q (Some u) is some within on g =
+        let newest' : newest_on u.stream_id.0 history.log ≡ Some found.0 = newest_stream history.log u.stream_id.0 found.0 is_newest (sym on ∙ g.is) in
         elim g.came [
-          | inl e ↦ absurd (let gone : at_place (acknowledged + k) [] ≡ Some (Some found.0) = subst (λ (l : List Slot). at_place (acknowledged + k) l ≡ Some (Some found.0)) e found.1 in cc)
+          | inl e ↦ absurd (let clash : None ≡ Some found.0 = sym e ∙ newest' in cc)
           | inr c ↦
-              (let both : Some (Some c.piece) ≡ Some (Some found.0) = sym c.at ∙ is_newest in
+              (let both : Some c.piece ≡ Some found.0 = sym c.at ∙ newest' in
               let one : c.piece ≡ found.0 = cc in
-              let t = g.there in
-              let w = front_queued queued (stream_at old.waiting.streams t.q).id (stream_at old.waiting.streams t.q).messages t.waiting (stands.queue_holds.wait t.q) t.front in
-              let place_is : t.waiting.message_id ≡ g.place = g.front t.q t.waiting t.is t.front in
-              let messages : Some w.message ≡ Some g.message = sym w.at ∙ ap (λ (n : ℕ). at_place n queued) place_is ∙ g.at in
-              let message : w.message ≡ g.message = cc in
-              let stream : (stream_at old.waiting.streams t.q).id ≡ last.fragment.stream =
-              w.is.stream ∙ ap (λ (m : Message). m.stream) (message ∙ sym c.says) ∙ ap (λ (x : Piece). x.message.stream) one ∙ sym found.2.stream in
               record {
+                place = q;
+                within = within;
+                is = on ∙ sym found.2.stream;
                 under_way = u;
                 goes_on = is;
-                place = t.q;
-                within = t.within;
-                is = stream;
-                same = sym t.is ∙ stream;
-                message = t.waiting;
-                front = t.front;
-                named = place_is ∙ sym c.is ∙ ap (λ (x : Piece). x.place) one ∙ sym found.2.named;
+                message = g.waiting;
+                front = g.front;
+                named = g.named ∙ sym c.is ∙ ap (λ (x : Piece). x.place) one ∙ sym found.2.named;
               })
         ]
+
+    by_held : (h : Option StreamId) → old.waiting.held ≡ h → IsMessageUnderWay old.waiting last.fragment.stream last.fragment.message_id
+    by_held None is = absurd (let end = counts.rests is found.0 is_newest in let clash : true ≡ false = sym end ∙ sym found.2.end ∙ unended in cc)
+    by_held (Some h) is =
+        let some = stands.numbers.whole.held h.0 is in
+        let on = newest_is_on history.log h.0 found.0 is_newest (stands.numbers.whole.newest h.0 is) in
+        let (q, within, id, same) = named_place h.0 old.waiting.streams some in
+        by_place q (stream_at old.waiting.streams q).under_way refl (ap (λ (s : Stream). is_some s.under_way) (sym same) ∙ some) within (id ∙ sym on) (stands.queue_holds.going q)
 
 -- a change reaches each item in its range
 changed_in : (change : Change) (start end place : ℕ) (items : List Item) (item : Item) → slice_get items place ≡ Some item → start ≤ place → place < end → slice_get (changed_between change start end items) place ≡ Some (changed_item change item)

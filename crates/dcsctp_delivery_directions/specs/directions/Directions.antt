@@ -1,10 +1,9 @@
 -- One direction of an association, by the relations of the machine: what one side queues and sends,
 -- and what the other side receives and its user reads (RFC 9260, section 6), with interleaving or
 -- without (RFC 8260).
-use Rattle.std.specs.Prelude.{◌≡◌, ◌≢◌, ◌<◌, ◌≤◌, ◌+◌, ◌-◌, ◌%◌, ◌^◌, ℕ, suc, Bool, true, false, not, Option, None, Some, List, [], ◌∷◌, ◌++◌, length}
+use Rattle.std.specs.Prelude.{◌≡◌, ◌≢◌, ◌<◌, ◌≤◌, ◌+◌, ◌-◌, ◌%◌, ◌^◌, ℕ, suc, Bool, true, false, not, Option, None, Some, is_some, List, [], ◌∷◌, ◌++◌, length}
 use Rattle.dcsctp_spec.specs.wire.Content.{DataContent, IDataContent, SackContent, data_chunk, i_data_chunk, forward_tsn_chunk, i_forward_tsn_chunk}
 use Rattle.dcsctp_spec.specs.types.declared.options.Options.{Options}
-use Rattle.dcsctp_spec.specs.types.declared.sending.UnderWay.{UnderWay}
 use Rattle.dcsctp_spec.specs.types.queues.SendStreams.{Waiting, Stream, front_of, next_numbers}
 use Rattle.dcsctp_spec.specs.queues.SendQueue.{SendQueueState}
 use Rattle.dcsctp_spec.specs.endpoint.Endpoint.{Endpoint}
@@ -28,6 +27,7 @@ use Rattle.dcsctp_spec.specs.endpoint.FlushOutcomes.{Answer, FlushAnswers, flush
 use Rattle.dcsctp_spec.specs.endpoint.MessageOutcomes.{Sending, sending_queued}
 use Rattle.dcsctp_spec.specs.endpoint.TransferMoves.{ReceivesData, MovesForward, TakesSack, lost_all}
 use Rattle.dcsctp_delivery_directions.specs.sending.Numbers.{stream_named, next_mid}
+use Rattle.dcsctp_delivery_directions.specs.sending.ChunkCounts.{going}
 use Rattle.dcsctp_delivery_directions.specs.sending.Places.{HasEntry}
 use Rattle.dcsctp_delivery_directions.specs.sending.Log.{Fits, Message}
 use Rattle.dcsctp_delivery_directions.specs.sending.Losing.{AllWaitOn}
@@ -226,22 +226,23 @@ pub data DirectionStep (old : Direction) : Direction → Type 0 where
   takes : (message : MessageContent) (messages : List MessageContent) → old.reassembly.incoming.ready ≡ message ∷ messages
       → DirectionStep old (record old { reassembly = with_ready messages old.reassembly; read = old.read ++ message ∷ [] })
 
--- No TSN was assigned yet, or there is no peer. What is in flight will be sent as the queue numbers messages.
-abbrev pub NoneInFlight : ℕ → Bool → Option Transfer → Type 0
-NoneInFlight first is_interleaved None = Unit {0}
-NoneInFlight first is_interleaved (Some transfer) =
-    (transfer.retransmission.outstanding.first_tsn ≡ first) × (transfer.retransmission.outstanding.items ≡ []) × (transfer.retransmission.outstanding.is_interleaved ≡ is_interleaved)
+-- No TSN was assigned yet, and at most one message is under way; or there is no peer. What is in flight will be sent as the queue
+-- numbers messages.
+abbrev pub NoneInFlight : ℕ → SendQueueState → Option Transfer → Type 0
+NoneInFlight first queue None = Unit {0}
+NoneInFlight first queue (Some transfer) =
+    (transfer.retransmission.outstanding.first_tsn ≡ first) × (transfer.retransmission.outstanding.items ≡ []) × (transfer.retransmission.outstanding.is_interleaved ≡ queue.is_interleaved) × (going queue.streams ≤ 1)
 
 -- A message under way is unordered, if one is.
-abbrev pub RestIsUnordered : List Stream → Option UnderWay → Type 0
-RestIsUnordered streams under_way =
-    (u : UnderWay) (waiting : Waiting) → under_way ≡ Some u → front_of (stream_named u.stream_id.0 streams).messages ≡ Some waiting
+abbrev pub RestIsUnordered : List Stream → Type 0
+RestIsUnordered streams =
+    (id : ℕ) (waiting : Waiting) → is_some (stream_named id streams).under_way ≡ true → front_of (stream_named id streams).messages ≡ Some waiting
     → waiting.is_unordered ≡ true
 
 -- No ordered message is under way, the next one of each stream has the number 0, with interleaving and without, and none is to be
 -- reset.
 pub record BeginsAtZero (queue : SendQueueState) : Type 0 where
-  pub rest : RestIsUnordered queue.streams queue.under_way
+  pub rest : RestIsUnordered queue.streams
   pub zero : (id : ℕ) → next_mid false (stream_named id queue.streams) % 2 ^ 32 ≡ 0
   pub ssn : (id : ℕ) → (next_numbers false (stream_named id queue.streams)).0 ≡ 0
   pub unpaused : (id : ℕ) → is_open_pause (stream_named id queue.streams).pause ≡ true
@@ -255,7 +256,7 @@ pub record BeginsAs (beginning : Beginning) (queued : List Message) (queue : Sen
 pub record BeginsDirection (options : Options) (first size : ℕ) (direction : Direction) : Type 0 where
   pub fit : AllByRecursion Fits direction.queued
   pub queues : QueueWaits direction.queued direction.queues.queue
-  pub flight : NoneInFlight first direction.queues.queue.is_interleaved direction.queues.transfer
+  pub flight : NoneInFlight first direction.queues.queue direction.queues.transfer
   pub acknowledged : direction.acknowledged ≡ 0
   pub sent : direction.sent ≡ []
   pub first_is : direction.first_tsn ≡ first
@@ -279,7 +280,7 @@ pub data DirectionRun (options : Options) (first size : ℕ) : Direction → Typ
   begins : (direction : Direction) → BeginsDirection options first size direction → DirectionRun options first size direction
   goes_on : (old direction : Direction) → DirectionRun options first size old → DirectionStep old direction → DirectionRun options first size direction
   -- The sender begins after the receiver.
-  starts : (old : Direction) (queued : List Message) (sender_queues : EndpointQueues) (beginning : Beginning) → DirectionRun options first size old → IsAwaited old → AllByRecursion Fits queued → QueueWaits queued sender_queues.queue → NoneInFlight first sender_queues.queue.is_interleaved sender_queues.transfer
+  starts : (old : Direction) (queued : List Message) (sender_queues : EndpointQueues) (beginning : Beginning) → DirectionRun options first size old → IsAwaited old → AllByRecursion Fits queued → QueueWaits queued sender_queues.queue → NoneInFlight first sender_queues.queue sender_queues.transfer
       → BeginsAs beginning queued sender_queues.queue → DirectionRun options first size (record old { queued = queued; queues = sender_queues; beginning = beginning })
 
 -- Each message that was read was queued, and none twice.

@@ -1,13 +1,14 @@
 -- The epochs of a stream, from one reset that its user asks for to the next (RFC 6525, section 5.1.2):
 -- what was queued before a request is sent before the reset, and what was queued since after it.
-use Rattle.std.specs.Prelude.{◌≡◌, ◌<◌, ◌≤◌, ◌&&◌, ℕ, Bool, true, false, Option, None, Some, List, [], ◌∷◌, drop, if◌then◌else◌}
+use Rattle.std.specs.Prelude.{◌≡◌, ◌<◌, ◌≤◌, ◌&&◌, ℕ, Bool, true, false, Option, None, Some, is_some, List, [], ◌∷◌, if◌then◌else◌}
 use Rattle.dcsctp_spec.specs.types.queues.SendStreams.{Waiting, Stream, front_of}
 use Rattle.dcsctp_spec.specs.queues.Incoming.{is_named}
-use Rattle.dcsctp_spec.specs.queues.OwnResets.{is_open_pause, is_under_way, count_under_way}
+use Rattle.dcsctp_spec.specs.queues.OwnResets.{is_open_pause}
 use Rattle.dcsctp_spec.specs.queues.SendQueue.{SendQueueState}
 use Rattle.dcsctp_delivery_directions.specs.sending.Places.{at_place}
 use Rattle.dcsctp_delivery_directions.specs.sending.Log.{Piece, History}
 use Rattle.dcsctp_delivery_directions.specs.sending.Numbers.{stream_named, is_handed_out, IsCurrent}
+use Rattle.dcsctp_delivery_directions.specs.sending.Pieces.{unbegun}
 
 -- Each of these was queued at this place or later.
 abbrev pub AllFrom : ℕ → List Waiting → Type 0
@@ -23,8 +24,8 @@ pub record SendsFrom (history : History) (queue : SendQueueState) (id place : �
 -- there or later.
 pub record HaltsBefore (history : History) (queue : SendQueueState) (id place : ℕ) : Type 0 where
   pub sent : (n : ℕ) (f : Piece) → at_place n history.log ≡ Some (Some f) → f.message.stream ≡ id → f.place < place
-  pub going : (w : Waiting) → is_under_way id queue.under_way ≡ true → front_of (stream_named id queue.streams).messages ≡ Some w → w.message_id < place
-  pub rest : AllFrom place (drop (count_under_way id queue.under_way) (stream_named id queue.streams).messages)
+  pub going : (w : Waiting) → is_some (stream_named id queue.streams).under_way ≡ true → front_of (stream_named id queue.streams).messages ≡ Some w → w.message_id < place
+  pub rest : AllFrom place (unbegun (stream_named id queue.streams))
 
 -- What a user asked for on a stream: how many messages were queued at the newest request that paused it, if there was one in the
 -- association, and at the one before whose reset has ended.

@@ -5,7 +5,6 @@ use Rattle.std.specs.List.{AllByRecursion}
 use Rattle.dcsctp_spec_lemmas.specs.types.queues.Messages.{MessageContent}
 use Rattle.dcsctp_spec_lemmas.specs.types.declared.arrivals.SkippedTo.{SkippedTo}
 use Rattle.dcsctp_spec_lemmas.specs.spec.queues.Numbers.{number_near}
-use Rattle.dcsctp_spec_lemmas.specs.spec.queues.Runs.{RunModel}
 use Rattle.dcsctp_spec_lemmas.specs.spec.queues.IncomingStreams.{StreamModel, ChunkModel, skipped_stream}
 use Rattle.dcsctp_spec_lemmas.specs.spec.queues.Incoming.{IncomingModel, nothing, stream_on, TakesIncomingChunk, MovesOn, ResetsStreams}
 use Rattle.dcsctp_spec_lemmas.specs.spec.queues.Reassembly.{names_stream}

@@ -1,7 +1,6 @@
 -- A stream without interleaving: the sender's numbers of its ordered messages are counts, which the
 -- log has, and the receiver reads them right (RFC 9260, section 6.6).
 use Rattle.std.specs.Prelude.{◌≡◌, ◌⊎◌, ◌<◌, ◌≤◌, ◌+◌, ◌-◌, ◌^◌, if◌then◌else◌, ℕ, Bool, false, true, None, Some, List, [], ◌∷◌, ◌++◌, length}
-use Rattle.dcsctp_spec_lemmas.specs.types.queues.Messages.{MessageContent}
 use Rattle.dcsctp_spec_lemmas.specs.spec.queues.Numbers.{fragment_place}
 use Rattle.dcsctp_spec_lemmas.specs.spec.queues.Runs.{RunModel}
 use Rattle.dcsctp_spec_lemmas.specs.spec.queues.IncomingStreams.{StreamModel, is_number_waiting}

@@ -1,13 +1,12 @@
 -- The order in which ordered messages of a stream were queued, and the numbers of what was sent of
 -- them (RFC 9260, section 6.6; RFC 8260, section 2.1).
-use Rattle.std.specs.Prelude.{◌≡◌, ◌<◌, ◌≤◌, ◌+◌, ◌^◌, ℕ, zero, suc, true, false, Some, List, [], ◌∷◌, length}
+use Rattle.std.specs.Prelude.{◌≡◌, ◌<◌, ◌≤◌, ℕ, zero, suc, true, false, Some, List, [], ◌∷◌, length}
 use Rattle.dcsctp_spec_lemmas.specs.spec.endpoint.Event.{Event}
 use Rattle.dcsctp_spec_lemmas.specs.spec.queues.SendQueue.{SendQueueState}
 use Rattle.dcsctp_spec_lemmas.specs.spec.queues.Sending.{Fragment, TakesFragment}
 use Rattle.dcsctp_delivery_directions.specs.sending.Places.{HasEntry, at_place}
 use Rattle.dcsctp_delivery_directions.specs.sending.Log.{Message, Piece, Slot, History, with_slot}
-use Rattle.dcsctp_delivery_directions.specs.sending.Numbers.{NumbersMessages}
-use Rattle.dcsctp_delivery_directions.specs.sending.Pieces.{HoldsQueued, HandsOutPiece}
+use Rattle.dcsctp_delivery_directions.specs.sending.Pieces.{HandsOutPiece}
 
 -- ---- what is promised of the places of messages that were read, in the order of reading
 
@@ -72,6 +71,5 @@ FollowsOn id log =
 abbrev pub HandingFollows : Type 0
 HandingFollows =
     (queued : List Message) (history : History) (now max : ℕ) (old new : SendQueueState) (told_before told_after : List (Event (List ℕ))) (part : Fragment)
-    → HoldsQueued queued history.log old.streams old.under_way → NumbersMessages history old → old.is_interleaved ≡ true → length history.log + 2 < 2 ^ 32
-    → TakesFragment now max old told_before part new told_after → (hands : HandsOutPiece queued history part new)
+    → old.is_interleaved ≡ true → TakesFragment now max old told_before part new told_after → (hands : HandsOutPiece queued history part new)
     → FollowsQueue history.log → FollowsQueue (with_slot (Some hands.piece) history).log

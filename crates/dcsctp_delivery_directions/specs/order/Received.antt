@@ -5,7 +5,7 @@ use Rattle.dcsctp_spec_lemmas.specs.spec.queues.Incoming.{IncomingModel}
 use Rattle.dcsctp_spec_lemmas.specs.spec.queues.Reassembly.{ReassemblyState, waiting_of}
 use Rattle.dcsctp_spec_lemmas.specs.spec.queues.Tracker.{TrackerState}
 use Rattle.dcsctp_delivery_directions.specs.sending.Places.{HasEntry}
-use Rattle.dcsctp_delivery_directions.specs.sending.Log.{Message, History, sent_messages, SentMessages}
+use Rattle.dcsctp_delivery_directions.specs.sending.Log.{SentMessages}
 use Rattle.dcsctp_delivery_directions.specs.receiving.Ready.{AreDistinct}
 use Rattle.dcsctp_delivery_directions.specs.receiving.Received.{CountsFromBase, DefersData}
 use Rattle.dcsctp_delivery_directions.specs.receiving.Tracked.{Tracks}

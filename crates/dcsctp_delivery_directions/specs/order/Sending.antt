@@ -22,4 +22,4 @@ HandingLosesNone =
 abbrev pub LosingNoneSendsInTurn : Type 0
 LosingNoneSendsInTurn =
     (queued : List Message) (history : History) (id : ℕ) (queue : SendQueueState) → CountsFromZero history id → AreCurrent history history.log → IsLogOfPieces queued history.log
-    → HoldsQueued queued history.log queue.streams queue.under_way → NoneLost queued history.log queue.streams → SendsInTurn queued history id
+    → HoldsQueued queued history.log queue.streams → NoneLost queued history.log queue.streams → SendsInTurn queued history id

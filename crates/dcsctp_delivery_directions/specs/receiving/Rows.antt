@@ -1,4 +1,5 @@
--- The runs that a reassembly queue holds are rows of pieces of the peer's log (RFC 9260, section 6.9).
+-- The runs that a reassembly queue holds are rows of pieces of the peer's log (RFC 9260, section 6.9,
+-- and RFC 8260, section 2.1).
 use Rattle.std.specs.Prelude.{◌≡◌, ◌<◌, ◌≤◌, ◌+◌, ◌-◌, ◌%◌, ◌^◌, ℕ, Bool, true, false, Some, List, [], ◌∷◌, length, take, drop}
 use Rattle.dcsctp_spec_lemmas.specs.spec.queues.Runs.{RunModel, PartModel, WholeModel, Assembly, part_dropped, part_kept, message_whole, joined_bytes}
 use Rattle.dcsctp_spec_lemmas.specs.spec.queues.Numbers.{fragment_place}
@@ -26,7 +27,8 @@ pub record IsPart (log : List Slot) (base : ℕ → ℕ) (Named : Piece → ℕ 
   pub beginning : part.is_beginning ≡ is_beginning piece
   pub end : part.is_end ≡ is_end piece
 
--- The run that is held is a row of pieces of one message. `got` has the offsets from the first TSN of all that were handled.
+-- The run that is held is a row of pieces of one message: by their numbers, or without interleaving by their TSNs. `got` has
+-- the offsets from the first TSN of all that were handled.
 pub record IsPieceRow (log : List Slot) (got : List ℕ) (base : ℕ → ℕ) (Named : Piece → ℕ → Type 0) (run : RunModel) : Type 0 where
   pub offset : ℕ
   pub head : Piece
@@ -35,9 +37,11 @@ pub record IsPieceRow (log : List Slot) (got : List ℕ) (base : ℕ → ℕ) (N
   pub at_head : at_place offset log ≡ Some (Some head)
   pub at_last : at_place last_offset log ≡ Some (Some last)
   pub first : IsPiecePlaced base offset head run.number run.first
-  pub ends : last_offset + 1 ≡ offset + length run.payloads
+  pub later : offset ≤ last_offset
+  pub fsns : (last.fsn + 1) % 2 ^ 32 ≡ (head.fsn + length run.payloads) % 2 ^ 32
+  pub near : head.is_interleaved ≡ false → last_offset + 1 ≡ offset + length run.payloads
   pub some : 0 < length run.payloads
-  pub covered : (k : ℕ) → offset ≤ k → k ≤ last_offset → HasEntry k got
+  pub covered : (n : ℕ) (f : Piece) → at_place n log ≡ Some (Some f) → f.place ≡ head.place → offset ≤ n → n ≤ last_offset → HasEntry n got
   pub place : last.place ≡ head.place
   pub message : last.message ≡ head.message
   pub order : head.start ≤ last.start
@@ -65,7 +69,7 @@ pub record Spent (log : List Slot) (got : List ℕ) (place : ℕ) : Type 0 where
   pub same : last.place ≡ place
   pub ends : is_end last ≡ true
   pub order : offset ≤ last_offset
-  pub covered : (k : ℕ) → offset ≤ k → k ≤ last_offset → HasEntry k got
+  pub covered : (n : ℕ) (f : Piece) → at_place n log ≡ Some (Some f) → f.place ≡ place → offset ≤ n → n ≤ last_offset → HasEntry n got
 
 -- The whole is the message that was queued at this place, and all its pieces were handled.
 pub record IsQueued (queued : List Message) (log : List Slot) (got : List ℕ) (Named : Piece → ℕ → Type 0) (place : ℕ) (whole : WholeModel) : Type 0 where

@@ -1,9 +1,10 @@
 -- How many TSNs an association assigns, by the DATA and I-DATA chunks that its sender sends (RFC
 -- 9260, section 6.1): at most two for each, since the end of a message that is abandoned takes one
 -- that is never sent (RFC 3758, section 3.5).
-use Rattle.std.specs.Prelude.{◌==◌, if◌then◌else◌, ◌≤◌, ◌+◌, ◌*◌, ℕ, Option, None, Some, List, [], ◌∷◌, length}
+use Rattle.std.specs.Prelude.{◌==◌, if◌then◌else◌, ◌≤◌, ◌+◌, ◌*◌, ℕ, Option, None, Some, List, [], ◌∷◌, length, sum_by}
 use Rattle.dcsctp_spec.specs.wire.Content.{data_chunk, i_data_chunk}
-use Rattle.dcsctp_spec.specs.types.declared.sending.UnderWay.{UnderWay}
+use Rattle.dcsctp_spec.specs.types.queues.SendStreams.{Stream}
+use Rattle.dcsctp_spec.specs.queues.OwnResets.{count_under_way}
 use Rattle.dcsctp_spec.specs.endpoint.Endpoint.{Endpoint}
 use Rattle.dcsctp_spec.specs.endpoint.Event.{packets_of_events}
 use Rattle.dcsctp_spec.specs.Packet.{Content, unworked, plain, Emission}
@@ -33,17 +34,17 @@ abbrev pub chunks_to : ℕ → List Emission → ℕ
 chunks_to tag [] = 0
 chunks_to tag (emission ∷ emissions) = (if emission.packet.tag == tag then chunks_among emission.packet.contents else 0) + chunks_to tag emissions
 
--- how many messages are under way: the end of one may take a TSN
-abbrev pub going : Option UnderWay → ℕ
-going None = 0
-going (Some under_way) = 1
+-- how many messages are under way: the end of each may take a TSN
+abbrev pub going : List Stream → ℕ
+going streams = sum_by count_under_way streams
 
 -- the TSNs that wait to be acknowledged, with that of such an end
 abbrev pub tsns_of : SendQueueState → List Item → ℕ
-tsns_of queue items = length items + going queue.under_way
+tsns_of queue items = length items + going queue.streams
 
+-- none is assigned without an association
 abbrev pub tsns_if_connected : SendQueueState → Option Transfer → ℕ
-tsns_if_connected queue None = going queue.under_way
+tsns_if_connected queue None = 0
 tsns_if_connected queue (Some transfer) = tsns_of queue transfer.retransmission.outstanding.items
 
 abbrev pub tsns_of_queues : EndpointQueues → ℕ

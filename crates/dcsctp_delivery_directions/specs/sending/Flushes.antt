@@ -179,11 +179,11 @@ PendsIfConnected history (Some transfer) = Pends history transfer.retransmission
 
 -- What waits was queued, and what is in flight is in the log.
 pub record QueuesFollowLog (queued : List Message) (history : History) (first acknowledged : ℕ) (sender_queues : EndpointQueues) : Type 0 where
-  pub queue_holds : HoldsQueued queued history.log sender_queues.queue.streams sender_queues.queue.under_way
+  pub queue_holds : HoldsQueued queued history.log sender_queues.queue.streams
   pub cut : IsLogOfPieces queued history.log
   pub flight : InFlight history first acknowledged sender_queues.transfer
   pub pends : PendsIfConnected history sender_queues.transfer
-  pub marks : AreMarks history first sender_queues.queue.under_way
+  pub marks : AreMarks history first sender_queues.queue.streams
   pub numbers : NumbersMessages history sender_queues.queue
   pub kind : IsOfKind sender_queues.queue.is_interleaved sender_queues.transfer
 

@@ -1,6 +1,6 @@
 -- The log of an association: which piece of which message each TSN carries that its sender has
 -- assigned (RFC 9260, section 6.9). Lists have the newest first.
-use Rattle.std.specs.Prelude.{◌≡◌, ◌==◌, ◌<◌, ◌≤◌, ◌+◌, ◌%◌, ℕ, Bool, true, false, Option, None, Some, List, [], ◌∷◌, ◌++◌, length, take, drop, ◌^◌}
+use Rattle.std.specs.Prelude.{◌≡◌, ◌⊎◌, ◌==◌, ◌<◌, ◌≤◌, ◌+◌, ◌%◌, ℕ, Bool, true, false, if◌then◌else◌, Option, None, Some, List, [], ◌∷◌, ◌++◌, length, take, drop, ◌^◌}
 use Rattle.dcsctp_delivery_directions.specs.sending.Places.{at_place}
 use Rattle.std.specs.List.{AllByRecursion}
 use Rattle.dcsctp_spec.specs.queues.Incoming.{is_named}
@@ -59,6 +59,18 @@ abbrev pub newest : List Slot → Option Slot
 newest [] = None
 newest (slot ∷ earlier) = Some slot
 
+-- the newest piece of a stream
+abbrev pub newest_on : ℕ → List Slot → Option Piece
+newest_on id [] = None
+newest_on id (None ∷ earlier) = newest_on id earlier
+newest_on id (Some piece ∷ earlier) = if piece.message.stream == id then Some piece else newest_on id earlier
+
+-- The newest TSN, if one was assigned, carries a piece of the stream.
+abbrev pub IsNewestOn : ℕ → List Slot → Type 0
+IsNewestOn id [] = Unit {0}
+IsNewestOn id (None ∷ earlier) = ⊥
+IsNewestOn id (Some piece ∷ earlier) = piece.message.stream ≡ id
+
 -- It is a piece of the message that was queued at its place, which isn't spent.
 pub record IsPiece (queued : List Message) (piece : Piece) : Type 0 where
   pub at : at_place piece.place queued ≡ Some piece.message
@@ -67,10 +79,17 @@ pub record IsPiece (queued : List Message) (piece : Piece) : Type 0 where
   pub within : piece.start + piece.size ≤ length piece.message.payload
   pub first : piece.start ≡ 0 → piece.fsn ≡ 0
 
--- The TSN before this one carries what comes before the piece in its message.
+-- The pieces of its message have TSNs in a row: without interleaving, and if the message may be abandoned.
+abbrev pub IsInRow : Piece → Type 0
+IsInRow piece = (piece.is_interleaved ≡ false) ⊎ (piece.message.is_limited ≡ true)
+
+-- A TSN before this one carries what comes before the piece in its message, and none between them a piece of its stream. If its
+-- message has TSNs in a row, it is the TSN right before.
 pub record HasBefore (log : List Slot) (number : ℕ) (piece : Piece) : Type 0 where
   pub earlier : ℕ
-  pub is : earlier + 1 ≡ number
+  pub is : earlier < number
+  pub near : IsInRow piece → earlier + 1 ≡ number
+  pub apart : (n : ℕ) (f : Piece) → earlier < n → n < number → at_place n log ≡ Some (Some f) → f.message.stream ≡ piece.message.stream → ⊥
   pub before : Piece
   pub at : at_place earlier log ≡ Some (Some before)
   pub start : before.start + before.size ≡ piece.start
@@ -79,13 +98,25 @@ pub record HasBefore (log : List Slot) (number : ℕ) (piece : Piece) : Type 0 w
   pub mid : before.mid ≡ piece.mid
   pub fsn : (before.fsn + 1) % 2 ^ 32 ≡ piece.fsn % 2 ^ 32
 
--- The log is one of messages that were queued. The pieces of a message follow one another; only the first TSN of an association
--- may carry the rest of a message whose beginning was sent in an earlier one. Of two messages of a stream the one that is begun
--- later was queued later, and with interleaving has the higher number, if both are ordered or both unordered. Right after a piece
--- an end without one is that of its message, which may be abandoned.
+-- A TSN before this one carries a piece of the stream.
+pub record IsAfterPiece (log : List Slot) (number id : ℕ) : Type 0 where
+  pub earlier : ℕ
+  pub piece : Piece
+  pub is : earlier < number
+  pub at : at_place earlier log ≡ Some (Some piece)
+  pub on : piece.message.stream ≡ id
+
+-- The piece isn't the first of its stream in the association; if its message has TSNs in a row, not the first of all.
+abbrev pub HasEarlier : List Slot → ℕ → Piece → Type 0
+HasEarlier log number piece = (IsInRow piece × (0 < number)) ⊎ IsAfterPiece log number piece.message.stream
+
+-- The log is one of messages that were queued. The pieces of a message come in order; only the first TSN of an association, and
+-- with interleaving the first of a stream, may carry the rest of a message whose beginning was sent in an earlier one. Of two
+-- messages of a stream the one that is begun later was queued later, and with interleaving has the higher number, if both are
+-- ordered or both unordered. Right after a piece an end without one is that of its message, which may be abandoned.
 pub record IsLogOfPieces (queued : List Message) (log : List Slot) : Type 0 where
   pub pieces : (n : ℕ) (f : Piece) → at_place n log ≡ Some (Some f) → IsPiece queued f
-  pub rows : (n : ℕ) (f : Piece) → 0 < n → at_place n log ≡ Some (Some f) → 0 < f.start → HasBefore log n f
+  pub rows : (n : ℕ) (f : Piece) → at_place n log ≡ Some (Some f) → 0 < f.start → HasEarlier log n f → HasBefore log n f
   pub ascends : (m n : ℕ) (f g : Piece) → m < n → at_place m log ≡ Some (Some f) → at_place n log ≡ Some (Some g) → g.start ≡ 0
       → f.message.stream ≡ g.message.stream → f.place < g.place
   pub climbs : (m n : ℕ) (f g : Piece) → m < n → at_place m log ≡ Some (Some f) → at_place n log ≡ Some (Some g) → g.start ≡ 0 → g.is_interleaved ≡ true

@@ -1,15 +1,17 @@
 -- How messages are numbered. With interleaving no two of a stream have one number in an association,
 -- among ordered messages and among unordered ones (RFC 8260, section 2.1); after a reset the numbers
 -- of a stream continue from a new floor. Without it SSNs count the ordered messages of a stream.
-use Rattle.std.specs.Prelude.{◌≡◌, ◌<◌, ◌≤◌, ◌+◌, ◌%◌, ◌^◌, ℕ, Bool, true, false, Option, None, Some, List, length}
+use Rattle.std.specs.Prelude.{◌≡◌, ◌<◌, ◌≤◌, ◌+◌, ◌%◌, ◌^◌, ℕ, Bool, true, false, Option, None, Some, is_some, List, length}
+use Rattle.dcsctp_spec.specs.types.declared.ids.StreamId.{StreamId}
 use Rattle.dcsctp_spec.specs.types.declared.sending.UnderWay.{UnderWay}
 use Rattle.dcsctp_spec.specs.types.declared.sending.Pause.{Pause}
 use Rattle.dcsctp_spec.specs.types.declared.sending.Pause.TheVariants.{Open, Pausing, HandedOut}
 use Rattle.dcsctp_spec.specs.types.queues.SendStreams.{Waiting, Stream, front_of, next_numbers, unused_stream}
 use Rattle.dcsctp_spec.specs.queues.SendQueue.{SendQueueState, stream_found}
+use Rattle.dcsctp_spec.specs.queues.Sending.{is_kept_whole}
 use Rattle.dcsctp_spec.specs.queues.Transfer.{Transfer}
 use Rattle.dcsctp_delivery_directions.specs.sending.Places.{HasEntry, at_place}
-use Rattle.dcsctp_delivery_directions.specs.sending.Log.{Piece, Slot, Mark, newest, is_end, History, Resets}
+use Rattle.dcsctp_delivery_directions.specs.sending.Log.{Piece, Slot, Mark, newest, newest_on, IsNewestOn, is_end, History, Resets}
 use Rattle.dcsctp_delivery_directions.specs.sending.Turns.{begun_on, turn_of_tsn, IsSsnOfTurn}
 
 -- the stream of this number, or one that was never used
@@ -26,10 +28,9 @@ is_handed_out Open = false
 is_handed_out Pausing = false
 is_handed_out HandedOut = true
 
--- The stream of the message under way isn't handed out.
-abbrev pub IsUnderWayKept : List Stream → Option UnderWay → Type 0
-IsUnderWayKept streams None = Unit {0}
-IsUnderWayKept streams (Some under_way) = is_handed_out (stream_named under_way.stream_id.0 streams).pause ≡ false
+-- No stream with a message under way is handed out.
+abbrev pub IsUnderWayKept : List Stream → Type 0
+IsUnderWayKept streams = (id : ℕ) → is_some (stream_named id streams).under_way ≡ true → is_handed_out (stream_named id streams).pause ≡ false
 
 -- The piece was sent since the last reset of its stream.
 abbrev pub IsCurrent : History → Piece → Type 0
@@ -44,23 +45,23 @@ abbrev pub AreKept : List Stream → List Slot → Type 0
 AreKept streams slots = (n : ℕ) (f : Piece) → at_place n slots ≡ Some (Some f) → is_handed_out (stream_named f.message.stream streams).pause ≡ false
 
 -- The message under way is the last that was begun on its stream, among ordered or unordered messages.
-pub record IsLastBegun (history : History) (streams : List Stream) (counts : ℕ → Bool → ℕ) (under_way : UnderWay) : Type 0 where
+pub record IsLastBegun (history : History) (streams : List Stream) (counts : ℕ → Bool → ℕ) (id : ℕ) (under_way : UnderWay) : Type 0 where
   pub waiting : Waiting
-  pub front : front_of (stream_named under_way.stream_id.0 streams).messages ≡ Some waiting
+  pub front : front_of (stream_named id streams).messages ≡ Some waiting
   pub mid : ℕ
   pub is : under_way.mid % 2 ^ 32 ≡ mid % 2 ^ 32
-  pub from : history.floors under_way.stream_id.0 waiting.is_unordered ≤ mid
-  pub last : mid + 1 ≡ history.floors under_way.stream_id.0 waiting.is_unordered + counts under_way.stream_id.0 waiting.is_unordered
-  pub came : (f : Piece) → newest history.log ≡ Some (Some f) → f.mid ≡ mid
+  pub from : history.floors id waiting.is_unordered ≤ mid
+  pub last : mid + 1 ≡ history.floors id waiting.is_unordered + counts id waiting.is_unordered
+  pub came : (f : Piece) → newest_on id history.log ≡ Some f → f.mid ≡ mid
 
--- So it is if a message is under way.
-abbrev pub LastIs : History → List Stream → (ℕ → Bool → ℕ) → Option UnderWay → Type 0
-LastIs history streams counts None = Unit {0}
-LastIs history streams counts (Some under_way) = IsLastBegun history streams counts under_way
+-- So it is if one is under way on this stream.
+abbrev pub LastIs : History → List Stream → (ℕ → Bool → ℕ) → ℕ → Option UnderWay → Type 0
+LastIs history streams counts id None = Unit {0}
+LastIs history streams counts id (Some under_way) = IsLastBegun history streams counts id under_way
 
 -- Messages are counted apart for each stream, and for ordered and unordered messages. `counts` are how many messages have a
 -- number since the stream was reset: one for each TSN at most, and the one that was under way where the association began.
-pub record CountsMessages (history : History) (streams : List Stream) (under_way : Option UnderWay) : Type 0 where
+pub record CountsMessages (history : History) (streams : List Stream) : Type 0 where
   pub counts : ℕ → Bool → ℕ
   pub few : (id : ℕ) (is_unordered : Bool) → counts id is_unordered ≤ length history.log + 1
   pub next : (id : ℕ) (is_unordered : Bool) → next_mid is_unordered (stream_named id streams) % 2 ^ 32 ≡ (history.floors id is_unordered + counts id is_unordered) % 2 ^ 32
@@ -68,7 +69,7 @@ pub record CountsMessages (history : History) (streams : List Stream) (under_way
       → f.mid < history.floors f.message.stream f.message.is_unordered + counts f.message.stream f.message.is_unordered
   pub apart : (m n : ℕ) (f g : Piece) → at_place m history.log ≡ Some (Some f) → at_place n history.log ≡ Some (Some g) → f.message.stream ≡ g.message.stream
       → f.message.is_unordered ≡ g.message.is_unordered → f.mid ≡ g.mid → f.place ≡ g.place
-  pub going : LastIs history streams counts under_way
+  pub going : (id : ℕ) → LastIs history streams counts id (stream_named id streams).under_way
 
 -- The SSNs of the stream began at 0 in the association, and no reset of it was begun.
 pub record IsFromStart (history : History) (id : ℕ) : Type 0 where
@@ -82,21 +83,29 @@ pub record GoesInTurn (id : ℕ) (log : List Slot) (streams : List Stream) (unde
   pub last : waiting.is_unordered ≡ false → IsSsnOfTurn under_way.ssn (begun_on id log)
 
 -- The SSNs of a stream count its ordered messages.
-pub record CountsTurns (id : ℕ) (log : List Slot) (streams : List Stream) (under_way : Option UnderWay) : Type 0 where
+pub record CountsTurns (id : ℕ) (log : List Slot) (streams : List Stream) : Type 0 where
   pub next : (stream_named id streams).next_ssn % 2 ^ 16 ≡ begun_on id log % 2 ^ 16
   pub sent : (n : ℕ) (f : Piece) → at_place n log ≡ Some (Some f) → f.message.stream ≡ id → f.message.is_unordered ≡ false → IsSsnOfTurn f.ssn (turn_of_tsn id n log)
-  pub going : (u : UnderWay) → under_way ≡ Some u → u.stream_id.0 ≡ id → GoesInTurn id log streams u
+  pub going : (u : UnderWay) → (stream_named id streams).under_way ≡ Some u → GoesInTurn id log streams u
 
 -- So they do on each stream. A message is begun only once the one before has ended, or is abandoned.
-pub record CountsSsns (history : History) (streams : List Stream) (under_way : Option UnderWay) : Type 0 where
-  pub turns : (id : ℕ) → IsFromStart history id → CountsTurns id history.log streams under_way
+pub record CountsSsns (history : History) (streams : List Stream) (held : Option StreamId) : Type 0 where
+  pub turns : (id : ℕ) → IsFromStart history id → CountsTurns id history.log streams
   pub closes : (n : ℕ) (f g : Piece) → at_place n history.log ≡ Some (Some f) → at_place (n + 1) history.log ≡ Some (Some g) → g.start ≡ 0 → is_end f ≡ true
-  pub rests : under_way ≡ None → (f : Piece) → newest history.log ≡ Some (Some f) → is_end f ≡ true
+  pub rests : held ≡ None → (f : Piece) → newest history.log ≡ Some (Some f) → is_end f ≡ true
 
 -- Without interleaving SSNs count, and with it MIDs do.
-abbrev pub CountsByKind : Bool → History → List Stream → Option UnderWay → Type 0
-CountsByKind false history streams under_way = CountsSsns history streams under_way
-CountsByKind true history streams under_way = CountsMessages history streams under_way
+abbrev pub CountsByKind : Bool → History → List Stream → Option StreamId → Type 0
+CountsByKind false history streams held = CountsSsns history streams held
+CountsByKind true history streams held = CountsMessages history streams
+
+-- A message that is kept whole is under way on the stream alone that is held. That stream has one under way, and what was sent
+-- last is of it.
+pub record HoldsWhole (log : List Slot) (queue : SendQueueState) : Type 0 where
+  pub each : (id : ℕ) (waiting : Waiting) → is_some (stream_named id queue.streams).under_way ≡ true → front_of (stream_named id queue.streams).messages ≡ Some waiting
+      → is_kept_whole waiting queue ≡ true → queue.held ≡ Some (record { 0 = id })
+  pub held : (id : ℕ) → queue.held ≡ Some (record { 0 = id }) → is_some (stream_named id queue.streams).under_way ≡ true
+  pub newest : (id : ℕ) → queue.held ≡ Some (record { 0 = id }) → IsNewestOn id log
 
 -- Each piece was sent as the queue numbers messages.
 abbrev pub AreOfKind : Bool → List Slot → Type 0
@@ -109,8 +118,9 @@ IsPieceOfKind is_interleaved log number = (f : Piece) → at_place number log �
 -- So the messages of a queue are numbered.
 pub record NumbersMessages (history : History) (queue : SendQueueState) : Type 0 where
   pub kinds : AreOfKind queue.is_interleaved history.log
-  pub counts : CountsByKind queue.is_interleaved history queue.streams queue.under_way
-  pub kept : IsUnderWayKept queue.streams queue.under_way
+  pub counts : CountsByKind queue.is_interleaved history queue.streams queue.held
+  pub kept : IsUnderWayKept queue.streams
+  pub whole : HoldsWhole history.log queue
 
 -- What is in flight is sent as the queue numbers messages.
 abbrev pub IsOfKind : Bool → Option Transfer → Type 0

@@ -24,7 +24,7 @@ message_of sending =
 
 -- The queue holds messages that were queued, and its next identifier counts them.
 pub record QueueHolds (queued : List Message) (history : History) (queue : SendQueueState) : Type 0 where
-  pub queue_holds : HoldsQueued queued history.log queue.streams queue.under_way
+  pub queue_holds : HoldsQueued queued history.log queue.streams
   pub next : queue.next_message_id ≡ length queued
   pub numbers : NumbersMessages history queue
 

@@ -1,5 +1,5 @@
 -- What is in flight carries what the log has, while packets are filled (RFC 9260, section 6.1).
-use Rattle.std.specs.Prelude.{◌≡◌, ◌⊎◌, ◌<◌, ◌≤◌, ◌+◌, ◌-◌, ◌%◌, ◌^◌, ℕ, Bool, true, false, Option, None, Some, List, [], ◌∷◌, ◌++◌, length, map, slice_get}
+use Rattle.std.specs.Prelude.{◌≡◌, ◌⊎◌, ◌<◌, ◌≤◌, ◌+◌, ◌-◌, ◌%◌, ◌^◌, ℕ, Bool, true, false, None, Some, is_some, List, [], ◌∷◌, ◌++◌, length, map, slice_get}
 use Rattle.dcsctp_spec.specs.Packet.{Plain, unworked}
 use Rattle.dcsctp_spec.specs.queues.Chunks.{AreChunksOfTsns, chunk_said}
 use Rattle.dcsctp_spec.specs.queues.Abandoning.{GivesUpAll}
@@ -10,9 +10,9 @@ use Rattle.dcsctp_spec.specs.queues.Sending.{Fragment}
 use Rattle.dcsctp_spec.specs.types.queues.Progress.{is_abandoned}
 use Rattle.dcsctp_spec.specs.endpoint.BegunResets.{stream_field}
 use Rattle.dcsctp_delivery_directions.specs.sending.Places.{HasEntry, at_place}
-use Rattle.dcsctp_spec.specs.types.declared.sending.UnderWay.{UnderWay}
+use Rattle.dcsctp_spec.specs.types.queues.SendStreams.{Stream}
 use Rattle.dcsctp_delivery_directions.specs.sending.Log.{Message, Piece, Slot, IsLogOfPieces, Mark, History, log_extended, Resets}
-use Rattle.dcsctp_delivery_directions.specs.sending.Numbers.{NumbersMessages, IsPieceOfKind, AreCurrent, AreKept}
+use Rattle.dcsctp_delivery_directions.specs.sending.Numbers.{stream_named, NumbersMessages, IsPieceOfKind, AreCurrent, AreKept}
 use Rattle.dcsctp_delivery_directions.specs.sending.Pieces.{HasNoLimits, CarriesPiece, HoldsQueued}
 
 -- The fragment says what the slot does. The end of an abandoned message has no payload.
@@ -78,27 +78,35 @@ pub record Pends (history : History) (reset_begun : Bool) : Type 0 where
   pub next : (mark : Mark) → HasEntry mark history.marks → mark.bound ≡ length history.log → reset_begun ≡ true
   pub none : reset_begun ≡ true → history.marks ≡ [] → history.log ≡ []
 
+-- One of the TSNs from this one on carries a piece of the stream.
+pub record IsSentFrom (log : List Slot) (bound id : ℕ) : Type 0 where
+  pub number : ℕ
+  pub piece : Piece
+  pub from : bound ≤ number
+  pub at : at_place number log ≡ Some (Some piece)
+  pub on : piece.message.stream ≡ id
+
 -- The reset that was begun names the last TSN that was assigned before it, and the fields of its streams. A message of these
--- streams is wholly before it, or wholly after it.
-pub record IsMark (history : History) (first : ℕ) (under_way : Option UnderWay) (mark : Mark) : Type 0 where
+-- streams is wholly before it, or wholly after it: one that is under way was begun after it.
+pub record IsMark (history : History) (first : ℕ) (streams : List Stream) (mark : Mark) : Type 0 where
   pub within : mark.bound ≤ length history.log
   pub last : mark.begun.reset.last_tsn ≡ (first + mark.bound + (2 ^ 32 - 1)) % 2 ^ 32
   pub fields : mark.begun.reset.streams ≡ map stream_field mark.ids
   pub sides : (m n : ℕ) (f g : Piece) → at_place m history.log ≡ Some (Some f) → at_place n history.log ≡ Some (Some g) → f.place ≡ g.place → Resets mark f.message.stream
       → m < mark.bound → n < mark.bound
-  pub going : (u : UnderWay) → under_way ≡ Some u → Resets mark u.stream_id.0 → mark.bound < length history.log
+  pub going : (id : ℕ) → is_some (stream_named id streams).under_way ≡ true → Resets mark id → IsSentFrom history.log mark.bound id
 
 -- Each that was begun does.
-abbrev pub AreMarks : History → ℕ → Option UnderWay → Type 0
-AreMarks history first under_way = (mark : Mark) → HasEntry mark history.marks → IsMark history first under_way mark
+abbrev pub AreMarks : History → ℕ → List Stream → Type 0
+AreMarks history first streams = (mark : Mark) → HasEntry mark history.marks → IsMark history first streams mark
 
 -- What waits was queued, and what is in flight is in the log.
 pub record Stands (queued : List Message) (history : History) (first acknowledged : ℕ) (stage : Stage) : Type 0 where
-  pub queue_holds : HoldsQueued queued history.log stage.waiting.streams stage.waiting.under_way
+  pub queue_holds : HoldsQueued queued history.log stage.waiting.streams
   pub cut : IsLogOfPieces queued history.log
   pub bears : Bears history first acknowledged stage.queue.outstanding
   pub pends : Pends history stage.queue.reset_begun
-  pub marks : AreMarks history first stage.waiting.under_way
+  pub marks : AreMarks history first stage.waiting.streams
   pub numbers : NumbersMessages history stage.waiting
   pub kind : stage.queue.outstanding.is_interleaved ≡ stage.waiting.is_interleaved
 

@@ -1,7 +1,7 @@
 -- How many TSNs what waits may take: at most one for each byte, and one for the end of each message
 -- that is abandoned (RFC 9260, section 6.9, and RFC 3758, section 3.5).
-use Rattle.std.specs.Prelude.{◌≤◌, ◌+◌, ℕ, suc, Option, None, Some, List, [], ◌∷◌, length}
-use Rattle.dcsctp_spec.specs.types.declared.sending.UnderWay.{UnderWay}
+use Rattle.std.specs.Prelude.{◌≤◌, ◌+◌, ℕ, suc, List, [], ◌∷◌, length}
+use Rattle.dcsctp_spec.specs.queues.SendQueue.{under_way_size}
 use Rattle.dcsctp_spec.specs.types.queues.SendStreams.{Waiting, Stream}
 use Rattle.dcsctp_delivery_directions.specs.sending.Log.{Message, Slot}
 
@@ -20,12 +20,7 @@ abbrev pub total : List Message → ℕ
 total [] = 0
 total (message ∷ messages) = suc (length message.payload) + total messages
 
--- how many bytes of the message under way were handed out
-abbrev pub bytes_handed_out : Option UnderWay → ℕ
-bytes_handed_out None = 0
-bytes_handed_out (Some under_way) = under_way.sent
-
 -- The bytes and messages that were queued are as many as the TSNs that were assigned and those that what waits may take.
-pub record HasRoomForLog (queued : List Message) (log : List Slot) (streams : List Stream) (under_way : Option UnderWay) : Type 0 where
+pub record HasRoomForLog (queued : List Message) (log : List Slot) (streams : List Stream) : Type 0 where
   pub whole : weight streams ≤ total queued
-  pub count : length log + weight streams ≤ total queued + bytes_handed_out under_way
+  pub count : length log + weight streams ≤ total queued + under_way_size streams

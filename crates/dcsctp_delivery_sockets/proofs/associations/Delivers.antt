@@ -18,6 +18,7 @@ use Rattle.dcsctp_delivery_directions.specs.directions.Directions.{nothing_asked
 use Rattle.dcsctp_delivery_directions.specs.directions.Marking.{IsUnspent, AreDeliveredForGood}
 use Rattle.dcsctp_delivery_directions.proofs.directions.ChunkCounts.{few_for_chunks}
 use Rattle.dcsctp_delivery_directions.proofs.directions.Marking.{directions_deliver_for_good}
+use Rattle.dcsctp_delivery_sockets.proofs.turns.Rules.{fresh_takes_turns}
 use Rattle.dcsctp_delivery_sockets.proofs.turns.Beginnings.{fresh_at_zero}
 use Rattle.dcsctp_delivery_sockets.proofs.turns.Unbegun.{fresh_is_at_zero}
 use Rattle.dcsctp_delivery_sockets.proofs.turns.Runs.{senders_begin}
@@ -172,6 +173,7 @@ ends_begin calls mine options =
         numbered = λ tag some anew. refl;
         kept = λ tag some only id never. never;
         dropping = λ tag. record { dropped = λ id resets. resets; asks = refl };
+        rules = fresh_takes_turns mine;
         unbegun = λ never. record { unlinked = refl; idle = refl; zero = fresh_is_at_zero mine; all = λ id never. record { waits = λ place message at. absurd (cc); unpaused = tt } };
         receiver = record { fits = record { first = 0; asking = nothing_asked; fits = tt }; current = λ transfer there. absurd (cc); left = inl refl; last = λ link is. absurd (cc); were_read = λ tag. refl; were_reset = λ report has. absurd has; begun = λ tag. inl refl; last_of = inl refl; reads_of = tt };
         alone = λ tag. inr (senders_begin options options 0 options.max_receiver_window_buffer_size (λ id. false) (λ id count. false));

@@ -233,6 +233,7 @@ module _ (options : Options) (ends : Ends) (e : Endpoint) (queued : List Message
             numbered = h.numbered;
             kept = h.kept;
             dropping = h.dropping;
+            rules = h.rules;
             unbegun = h.unbegun;
             receiver = later_receiver ends.firsts here (λ t ne. refl) fresh;
             mine = h.mine;
@@ -252,7 +253,7 @@ module _ (options : Options) (ends : Ends) (e : Endpoint) (queued : List Message
         (record {
           fit = queues.1;
           queues = queues.0;
-          flight = subst (steps.NoneInFlight first (ends.sends tag).queues.queue.is_interleaved) (sym waits.transfer) tt;
+          flight = subst (steps.NoneInFlight first (ends.sends tag).queues.queue) (sym waits.transfer) tt;
           acknowledged = waits.acknowledged;
           sent = waits.sent;
           first_is = refl;
@@ -274,6 +275,7 @@ module _ (options : Options) (ends : Ends) (e : Endpoint) (queued : List Message
             numbered = h.numbered;
             kept = h.kept;
             dropping = h.dropping;
+            rules = h.rules;
             unbegun = h.unbegun;
             receiver = later_receiver (table_with tag first ends.firsts) (set_same tag first ends.firsts) (λ t ne. set_other tag t first ends.firsts ne) fresh;
             mine = h.mine;

@@ -86,6 +86,7 @@ module _ (options : Options) (ends : Ends) (e : Endpoint) (queued : List Message
           numbered = h.numbered;
           kept = h.kept;
           dropping = h.dropping;
+          rules = h.rules;
           unbegun = h.unbegun;
           receiver = record {
             fits = fits;
@@ -138,6 +139,7 @@ module _ (options : Options) (ends : Ends) (e : Endpoint) (queued : List Message
             numbered = h.numbered;
             kept = h.kept;
             dropping = h.dropping;
+            rules = h.rules;
             unbegun = h.unbegun;
             receiver = record {
               fits = fits;

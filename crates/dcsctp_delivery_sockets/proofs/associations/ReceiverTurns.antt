@@ -246,6 +246,7 @@ module _ (options : Options) (ends : Ends) (e : Endpoint) (queued : List Message
             numbered = h.numbered;
             kept = h.kept;
             dropping = h.dropping;
+            rules = h.rules;
             unbegun = h.unbegun;
             receiver = record {
               fits = fits;

@@ -26,7 +26,7 @@ use Rattle.dcsctp_delivery_directions.specs.directions.Directions.{Direction, As
 use Rattle.dcsctp_delivery_sockets.specs.turns.Actions.{peer_tag, BeginsAssociation}
 use Rattle.dcsctp_delivery_sockets.specs.turns.Asking.{own_of, AsksFit, AskingGrows}
 use Rattle.dcsctp_delivery_sockets.specs.turns.Addressed.{AreAddressed}
-use Rattle.dcsctp_delivery_sockets.specs.turns.Runs.{direction_with_sender, new_direction}
+use Rattle.dcsctp_delivery_sockets.specs.turns.Runs.{TakesTurnsByOption, direction_with_sender, new_direction}
 use Rattle.dcsctp_delivery_sockets.proofs.turns.Beginnings.{begun_at_zero}
 use Rattle.dcsctp_delivery_sockets.proofs.turns.Runs.{senders_begin}
 use Rattle.dcsctp_delivery_sockets.proofs.turns.Unbegun.{unbegun_begins_at_zero, unbegun_begins_waiting}
@@ -124,7 +124,7 @@ receiver_renewed options ends sends latest former d past reading tag first r fre
     other t ne (inr had) = inr (subst (λ (n : ℕ). HadTag past t n) (sym (set_other tag t first ends.firsts ne)) had)
 
 module _ (options : Options) (ends : Ends) (e : Endpoint) (queued : List Message) (past : List Effect) (packets : List Emission) (d : Endpoint) (their_past : List Effect) (reading : Reading)
-    (h : Between options ends (sending_side e queued past packets) (receiving_side d their_past reading)) (input : Input) (o : Outcome) (w : AreAnswered ends e past d their_past) (little : AsksLittle (packets ++ packets_of_events o.events)) (begun : BeginsAssociation e o) (only_one : (each : AssociationIdentity) → HasEffect (holds each) o.effects → identity_of_core o.after.core ≡ Some each) (follows : o.after.options.follow_rfc ≡ e.options.follow_rfc) (same_kind : o.after.queues.queue.is_interleaved ≡ begun.held.capabilities.message_interleaving) where
+    (h : Between options ends (sending_side e queued past packets) (receiving_side d their_past reading)) (input : Input) (o : Outcome) (w : AreAnswered ends e past d their_past) (little : AsksLittle (packets ++ packets_of_events o.events)) (begun : BeginsAssociation e o) (only_one : (each : AssociationIdentity) → HasEffect (holds each) o.effects → identity_of_core o.after.core ≡ Some each) (follows : o.after.options.follow_rfc ≡ e.options.follow_rfc) (rules : TakesTurnsByOption o.after) (same_kind : o.after.queues.queue.is_interleaved ≡ begun.held.capabilities.message_interleaving) where
   abbrev pub new : AssociationIdentity
   new = identity_of begun.my begun.held
 
@@ -327,6 +327,7 @@ module _ (options : Options) (ends : Ends) (e : Endpoint) (queued : List Message
           numbered = numbers_anew is end refl;
           kept = kept_anew is end refl;
           dropping = dropping_anew end refl;
+          rules = rules;
           unbegun = λ never. absurd (never new new_held);
           receiver = receiver_same options ends ends'.sends ends'.latest ends'.former d their_past reading h.receiver;
           alone = λ tag. alone_later options ends ends' past (after_effects o.effects past) their_past their_past (after_within o.effects past) (λ effect has. has) tag refl refl (h.alone tag);
@@ -373,6 +374,7 @@ module _ (options : Options) (ends : Ends) (e : Endpoint) (queued : List Message
           numbered = numbers_anew is end refl;
           kept = kept_anew is end refl;
           dropping = dropping_anew end refl;
+          rules = rules;
           unbegun = λ never. absurd (never new new_held);
           receiver = receiver_renewed options ends ends'.sends ends'.latest ends'.former d their_past reading to first h.receiver fresh apart;
           alone = λ tag. elim (decide tag to) [

@@ -25,7 +25,7 @@ use Rattle.dcsctp_delivery_directions.specs.directions.Requests.{requests_among_
 use Rattle.dcsctp_delivery_directions.proofs.directions.RequestCounts.{requests_more, requests_more_to, requests_are_sent, unasked_sends_none, nothing_was_asked}
 use Rattle.dcsctp_delivery_sockets.specs.turns.Actions.{content_of_input, peer_tag, Collides}
 use Rattle.dcsctp_delivery_sockets.specs.turns.Asking.{Own, own_of_core, own_of, IsAsking, AsksFit, AskingGrows}
-use Rattle.dcsctp_delivery_sockets.specs.turns.Runs.{direction_with_sender, Outlasts, taken_turn}
+use Rattle.dcsctp_delivery_sockets.specs.turns.Runs.{TakesTurnsByOption, direction_with_sender, Outlasts, taken_turn}
 use Rattle.dcsctp_delivery_sockets.specs.associations.Ends.{SendingEnd, direction_of_ends, Ends, HadKind, IsBefore, PlaceWasTaken, sender_key, chunks_before, Sender, NumbersFromZero, KeepsThese, KeepsOnlyThese, Between, IsOnlyOwn, AreSeen, WentBefore, sending_side, receiving_side}
 use Rattle.dcsctp_delivery_sockets.specs.associations.Answered.{AnswersRequests, Requests, requests_of, waiting_deferral, AreAnswered, SenderHadPeer, WasJoined}
 use Rattle.dcsctp_delivery_sockets.specs.associations.Laws.{AreEnds, AsksLittle}
@@ -374,8 +374,8 @@ module _ (options : Options) (ends : Ends) (e : Endpoint) (queued : List Message
   only_before : (tag : ℕ) → IsOnlyOwn (after_effects o.effects past) tag → IsOnlyOwn past tag
   only_before tag only = λ each has. only each (within (holds each) has)
 
-  pub outlasts_goes_on : (seen : List (Event Emission)) → AreSeen ends d their_past seen → o.after.options.follow_rfc ≡ e.options.follow_rfc → AreEnds ends.calls seen options (sending_side o.after queued (after_effects o.effects past) (packets ++ packets_of_events o.events)) (receiving_side d their_past reading)
-  outlasts_goes_on seen reported follows =
+  pub outlasts_goes_on : (seen : List (Event Emission)) → AreSeen ends d their_past seen → o.after.options.follow_rfc ≡ e.options.follow_rfc → TakesTurnsByOption o.after → AreEnds ends.calls seen options (sending_side o.after queued (after_effects o.effects past) (packets ++ packets_of_events o.events)) (receiving_side d their_past reading)
+  outlasts_goes_on seen reported follows rules =
       record {
         ends = later;
         is = refl;
@@ -393,6 +393,7 @@ module _ (options : Options) (ends : Ends) (e : Endpoint) (queued : List Message
           kept = set_all (λ tag s. tag ≢ 0 → IsOnlyOwn (after_effects o.effects past) tag → KeepsThese ends.calls s.beginning) key end ends.sends
               (λ some' only. h.kept key some' (only_before key only)) (λ tag ne some' only. h.kept tag some' (only_before tag only));
           dropping = set_all (λ tag s. KeepsOnlyThese ends.calls s.beginning) key end ends.sends (h.dropping key) (λ tag ne. h.dropping tag);
+          rules = rules;
           unbegun = λ never. absurd (never goes.collision.opened.link link_held);
           receiver = receiver_same options ends later.sends later.latest later.former d their_past reading h.receiver;
           alone = λ tag. alone_later options ends later past (after_effects o.effects past) their_past their_past within (λ effect has. has) tag refl refl (h.alone tag);

@@ -25,7 +25,7 @@ use Rattle.dcsctp_delivery_directions.specs.directions.Directions.{Asking, nothi
 use Rattle.dcsctp_delivery_sockets.specs.turns.Actions.{peer_tag, queued_after}
 use Rattle.dcsctp_delivery_sockets.specs.turns.Asking.{own_of, AsksFit}
 use Rattle.dcsctp_delivery_sockets.specs.turns.Addressed.{AreAddressed}
-use Rattle.dcsctp_delivery_sockets.specs.turns.Runs.{direction_with_sender}
+use Rattle.dcsctp_delivery_sockets.specs.turns.Runs.{TakesTurnsByOption, direction_with_sender}
 use Rattle.dcsctp_delivery_sockets.proofs.turns.Runs.{begins_anew}
 use Rattle.dcsctp_delivery_sockets.specs.associations.Ends.{ResetCalls, SendingEnd, ReceivingEnd, direction_of_ends, new_end, Ends, IsUnbegun, NeverHeld, KeepsThese, KeepsOnlyThese, NumbersFromZero, sender_key, Sender, Receiver, AreSeen, Between, IsOnlyOwn, IsBefore, sending_side, receiving_side}
 use Rattle.dcsctp_delivery_sockets.specs.associations.Answered.{AreAnswered}
@@ -81,12 +81,12 @@ module _ (options : Options) (ends : Ends) (e : Endpoint) (queued : List Message
   abbrev pub Turned : List (Event Emission) → Type 0
   Turned seen = AreEnds ends.calls seen options (sending_side o.after (queued_after e input queued) (after_effects o.effects past) (packets ++ packets_of_events o.events)) (receiving_side d their_past reading)
 
-  pub goes_on : (seen : List (Event Emission)) → AreSeen ends d their_past seen → AreAnswered ends e past d their_past → ((each : AssociationIdentity) → HasEffect (holds each) (after_effects o.effects past) → HasEffect (holds each) past) → o.after.options.follow_rfc ≡ e.options.follow_rfc → (NeverHeld (after_effects o.effects past) → IsUnbegun ends.calls (queued_after e input (ends.sends (sender_key e.core)).queued) o.after) → identity_of_core o.after.core ≡ identity_of_core e.core → o.after.queues.queue.is_interleaved ≡ e.queues.queue.is_interleaved → AreAddressed (peer_tag e.core) (packets_of_events o.events) → (acknowledged : ℕ) (asking : Asking) → RequestsStay (ends.sends (sender_key e.core)).asking asking → AsksFit (ends.firsts (sender_key e.core)) (own_of o.after) asking
+  pub goes_on : (seen : List (Event Emission)) → AreSeen ends d their_past seen → AreAnswered ends e past d their_past → ((each : AssociationIdentity) → HasEffect (holds each) (after_effects o.effects past) → HasEffect (holds each) past) → o.after.options.follow_rfc ≡ e.options.follow_rfc → TakesTurnsByOption o.after → (NeverHeld (after_effects o.effects past) → IsUnbegun ends.calls (queued_after e input (ends.sends (sender_key e.core)).queued) o.after) → identity_of_core o.after.core ≡ identity_of_core e.core → o.after.queues.queue.is_interleaved ≡ e.queues.queue.is_interleaved → AreAddressed (peer_tag e.core) (packets_of_events o.events) → (acknowledged : ℕ) (asking : Asking) → RequestsStay (ends.sends (sender_key e.core)).asking asking → AsksFit (ends.firsts (sender_key e.core)) (own_of o.after) asking
       → AreAnswered (grown_ends ends (sender_key e.core) (peer_tag e.core) e.queues queued past packets h.sender o.effects more o.after.queues acknowledged (packets_of_events o.events) asking) o.after (after_effects o.effects past) d their_past
       → DirectionRun options (ends.firsts (sender_key e.core)) options.max_receiver_window_buffer_size
       (direction_with_sender (direction_of_ends (ends.sends (sender_key e.core)) (ends.gets (sender_key e.core))) (queued_after e input (ends.sends (sender_key e.core)).queued) o.after.queues acknowledged ((ends.sends (sender_key e.core)).sent ++ packets_of_events o.events) asking)
       → (identity_of_core o.after.core ≡ None → o.after.queues.transfer ≡ None) → Turned seen
-  goes_on seen reported w none_began follows unbegun linked kind addressed acknowledged asking stay fits answered run nowhere =
+  goes_on seen reported w none_began follows rules unbegun linked kind addressed acknowledged asking stay fits answered run nowhere =
       let key : ℕ = sender_key e.core in
       let end : SendingEnd = grown_end ends key (peer_tag e.core) e.queues queued past packets h.sender o.effects more o.after.queues acknowledged (packets_of_events o.events) asking in
       let later : Ends = grown_ends ends key (peer_tag e.core) e.queues queued past packets h.sender o.effects more o.after.queues acknowledged (packets_of_events o.events) asking in
@@ -112,6 +112,7 @@ module _ (options : Options) (ends : Ends) (e : Endpoint) (queued : List Message
           kept = set_all (λ tag s. tag ≢ 0 → IsOnlyOwn (after_effects o.effects past) tag → KeepsThese ends.calls s.beginning) key end ends.sends
               (λ some only. h.kept key some (only_before key only)) (λ tag ne some only. h.kept tag some (only_before tag only));
           dropping = set_all (λ tag s. KeepsOnlyThese ends.calls s.beginning) key end ends.sends (h.dropping key) (λ tag ne. h.dropping tag);
+          rules = rules;
           unbegun = λ never.
               subst (λ (k : ℕ). IsUnbegun ends.calls (table_with key end ends.sends k).queued o.after) (sym (same_key o.after.core e.core linked))
               (subst (λ (s : SendingEnd). IsUnbegun ends.calls s.queued o.after) (sym (set_same key end ends.sends))
@@ -140,13 +141,13 @@ module _ (options : Options) (ends : Ends) (e : Endpoint) (queued : List Message
       renewed_ends (grown_ends ends (sender_key e.core) (peer_tag e.core) e.queues queued past packets h.sender o.effects more last acknowledged (packets_of_events o.events) asking) (sender_key e.core) (peer_tag e.core) last (more ++ queued) (after_effects o.effects past)
       (packets ++ packets_of_events o.events) (grown ends (sender_key e.core) (peer_tag e.core) e.queues queued past packets h.sender o.effects more last acknowledged (packets_of_events o.events) asking addressed kind none_began) [] 0 0 o.after.queues 0 [] nothing_asked (record { from_zero = false; keeps = λ id. false; asks = ends.calls.asks }) ends.gets ends.firsts None
 
-  pub ended : (seen : List (Event Emission)) → AreSeen ends d their_past seen → AreAnswered ends e past d their_past → (none_began : (each : AssociationIdentity) → HasEffect (holds each) (after_effects o.effects past) → HasEffect (holds each) past) → o.after.options.follow_rfc ≡ e.options.follow_rfc → (NeverHeld (after_effects o.effects past) → IsUnbegun ends.calls (queued_after e input (ends.sends (sender_key e.core)).queued) o.after) → identity_of_core o.after.core ≡ None → (addressed : AreAddressed (peer_tag e.core) (packets_of_events o.events)) → (last : EndpointQueues) → (kind : last.queue.is_interleaved ≡ e.queues.queue.is_interleaved) → o.after.queues ≡ record last { transfer = None }
+  pub ended : (seen : List (Event Emission)) → AreSeen ends d their_past seen → AreAnswered ends e past d their_past → (none_began : (each : AssociationIdentity) → HasEffect (holds each) (after_effects o.effects past) → HasEffect (holds each) past) → o.after.options.follow_rfc ≡ e.options.follow_rfc → TakesTurnsByOption o.after → (NeverHeld (after_effects o.effects past) → IsUnbegun ends.calls (queued_after e input (ends.sends (sender_key e.core)).queued) o.after) → identity_of_core o.after.core ≡ None → (addressed : AreAddressed (peer_tag e.core) (packets_of_events o.events)) → (last : EndpointQueues) → (kind : last.queue.is_interleaved ≡ e.queues.queue.is_interleaved) → o.after.queues ≡ record last { transfer = None }
       → QueueWaits (queued_after e input (ends.sends (sender_key e.core)).queued) last.queue → AllByRecursion Fits (queued_after e input (ends.sends (sender_key e.core)).queued) → (acknowledged : ℕ) (asking : Asking) → RequestsStay (ends.sends (sender_key e.core)).asking asking
       → AreAnswered (ended_ends none_began last acknowledged asking addressed kind) o.after (after_effects o.effects past) d their_past
       → DirectionRun options (ends.firsts (sender_key e.core)) options.max_receiver_window_buffer_size
       (direction_with_sender (direction_of_ends (ends.sends (sender_key e.core)) (ends.gets (sender_key e.core))) (queued_after e input (ends.sends (sender_key e.core)).queued) last acknowledged ((ends.sends (sender_key e.core)).sent ++ packets_of_events o.events) asking)
       → Turned seen
-  ended seen reported w none_began follows unbegun none addressed last kind is shown fit acknowledged asking stay answered run =
+  ended seen reported w none_began follows rules unbegun none addressed last kind is shown fit acknowledged asking stay answered run =
       let key : ℕ = sender_key e.core in
       let ps : List Emission = packets_of_events o.events in
       let end : SendingEnd = grown_end ends key (peer_tag e.core) e.queues queued past packets h.sender o.effects more last acknowledged ps asking in
@@ -193,6 +194,7 @@ module _ (options : Options) (ends : Ends) (e : Endpoint) (queued : List Message
               (λ some only. h.kept key some (only_before key only)) (λ t ne' some only. h.kept t some (only_before t only)) tag);
           dropping = set_all (λ tag s. KeepsOnlyThese ends.calls s.beginning) 0 new middle.sends (record { dropped = λ id resets. refl; asks = refl })
               (λ tag ne. set_all (λ t s. KeepsOnlyThese ends.calls s.beginning) key end ends.sends (h.dropping key) (λ t ne'. h.dropping t) tag);
+          rules = rules;
           unbegun = λ never.
               subst (λ (k : ℕ). IsUnbegun ends.calls (table_with 0 new middle.sends k).queued o.after) (sym (no_key o.after.core none))
               (subst (λ (s : SendingEnd). IsUnbegun ends.calls s.queued o.after) (sym (set_same 0 new middle.sends))

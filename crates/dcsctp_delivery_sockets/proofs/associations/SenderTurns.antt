@@ -24,9 +24,10 @@ use Rattle.dcsctp_delivery_directions.proofs.directions.RequestCounts.{requests_
 use Rattle.dcsctp_delivery_sockets.specs.turns.Actions.{IsOpening, content_of_input, peer_tag, queued_after, resets_stream, BeginsAssociation, IsCall, Collides}
 use Rattle.dcsctp_delivery_sockets.specs.turns.Addressed.{AreAddressed}
 use Rattle.dcsctp_delivery_sockets.specs.turns.Asking.{own_with, own_of_core, own_of, AsksFit, AskingGrows}
-use Rattle.dcsctp_delivery_sockets.specs.turns.Runs.{direction_with_sender, IsBetween, EndsPerformed, RefusesNone, SenderTurns, run_goes_on, run_ends, run_begins, run_outlasts, MayDrop, IsTrueAcknowledgement, Outlasts, IdleTurns, idle_stays, idle_begins, taken_turn}
+use Rattle.dcsctp_delivery_sockets.specs.turns.Runs.{TakesTurnsByOption, direction_with_sender, IsBetween, EndsPerformed, RefusesNone, SenderTurns, run_goes_on, run_ends, run_begins, run_outlasts, MayDrop, IsTrueAcknowledgement, Outlasts, IdleTurns, idle_stays, idle_begins, taken_turn}
 use Rattle.dcsctp_delivery_sockets.proofs.turns.Completing.{completes_own}
 use Rattle.dcsctp_delivery_sockets.proofs.turns.ResetInputs.{named_by}
+use Rattle.dcsctp_delivery_sockets.proofs.turns.Rules.{turns_stay_by_option}
 use Rattle.dcsctp_delivery_sockets.proofs.turns.Runs.{senders_go_on, receivers_begin}
 use Rattle.dcsctp_delivery_sockets.specs.turns.Unbegun.{UnbegunTurns, stays_unbegun, begins_first}
 use Rattle.dcsctp_delivery_sockets.proofs.turns.Unbegun.{stays_at_zero}
@@ -261,6 +262,24 @@ module _ (options : Options) (ends : Ends) (e : Endpoint) (queued : List Message
         | inr before ↦ before
       ]
 
+  -- The first TSN of one that begins has 32 bits.
+  small_so : (begun : BeginsAssociation e o) → IsOpening (content_of_input input) → identity_of_core o.after.core ≡ Some (identity_of begun.my begun.held) → begun.my.first_tsn < 2 ^ 32
+  small_so begun opening linked =
+      elim (new begun opening linked) [
+        | inl is ↦ is.small
+        | inr takes ↦
+            (let own : sender_key e.core ≡ takes.old.my.tag = link_tag e.core takes.old takes.was in
+            let had = h.sender.current (λ zero. (h.sender.known takes.old (h.mine takes.old takes.was)).0 (sym own ∙ zero)) in
+            let one : had.link ≡ takes.old = takes.only had.link had.held (had.tag_is ∙ own ∙ ap (λ (p : Pair). p.tag) takes.my) in
+            let first : ends.firsts (sender_key e.core) ≡ begun.my.first_tsn = sym had.first_is ∙ ap (λ (l : AssociationIdentity). l.my.first_tsn) one ∙ ap (λ (p : Pair). p.first_tsn) takes.my in
+            subst (λ (n : ℕ). n < 2 ^ 32) first (h.small (sender_key e.core)))
+      ]
+
+  -- Streams of equal priority take turns by the option, as before.
+  rules_then : o.after.options.follow_rfc ≡ e.options.follow_rfc → IsCall input → Turn e input o → TakesTurnsByOption o.after
+  rules_then follows may turn =
+      turns_stay_by_option e input o (record { first = ends.firsts key; asking = (ends.sends key).asking; fits = h.asks }) (λ begun opening linked. small_so begun opening linked) follows may turn h.rules
+
   -- Another one takes its place, and goes on.
   goes_so : (collision : Collides (content_of_input input) e o) → TakesOver past their_past e input (identity_of (other_begun e input o collision).my (other_begun e input o collision).held) → GoesOn past e input o
   goes_so collision takes =
@@ -286,7 +305,7 @@ module _ (options : Options) (ends : Ends) (e : Endpoint) (queued : List Message
       let none : queued_after e input [] ≡ [] = queues_none (queued_after e input []) (ends.sends (sender_key e.core)).queued (sym (input_adds e input (ends.sends (sender_key e.core)).queued) ∙ same) in
       let stays : queued_after e input queued ≡ queued = input_adds e input queued ∙ ap (λ (l : List Message). l ++ queued) none in
       subst (λ (l : List Message). AreEnds ends.calls seen options (sending_side o.after l (after_effects o.effects past) (packets ++ packets_of_events o.events)) (receiving_side d their_past reading)) (sym stays)
-      (outlasts_goes_on options ends e queued past packets d their_past reading h input o w little (goes_so collision takes) later (λ each has. holds_mean e input o each may turn has) seen reported follows)
+      (outlasts_goes_on options ends e queued past packets d their_past reading h input o w little (goes_so collision takes) later (λ each has. holds_mean e input o each may turn has) seen reported follows (rules_then follows may turn))
 
   -- Where it takes the place of the one that is there, what was sent goes on.
   collided : (begun : BeginsAssociation e o) → IsOpening (content_of_input input) → TakesOver past their_past e input (identity_of begun.my begun.held) → Turn e input o → GoesThere (content_of_input input) e o
@@ -322,19 +341,6 @@ module _ (options : Options) (ends : Ends) (e : Endpoint) (queued : List Message
       one_link : (one other : AssociationIdentity) → identity_of_core o.after.core ≡ Some one → identity_of_core o.after.core ≡ Some other → one ≡ other
       one_link one other first second = cc
 
-  -- The first TSN of one that begins has 32 bits.
-  small_so : (begun : BeginsAssociation e o) → IsOpening (content_of_input input) → identity_of_core o.after.core ≡ Some (identity_of begun.my begun.held) → begun.my.first_tsn < 2 ^ 32
-  small_so begun opening linked =
-      elim (new begun opening linked) [
-        | inl is ↦ is.small
-        | inr takes ↦
-            (let own : sender_key e.core ≡ takes.old.my.tag = link_tag e.core takes.old takes.was in
-            let had = h.sender.current (λ zero. (h.sender.known takes.old (h.mine takes.old takes.was)).0 (sym own ∙ zero)) in
-            let one : had.link ≡ takes.old = takes.only had.link had.held (had.tag_is ∙ own ∙ ap (λ (p : Pair). p.tag) takes.my) in
-            let first : ends.firsts (sender_key e.core) ≡ begun.my.first_tsn = sym had.first_is ∙ ap (λ (l : AssociationIdentity). l.my.first_tsn) one ∙ ap (λ (p : Pair). p.first_tsn) takes.my in
-            subst (λ (n : ℕ). n < 2 ^ 32) first (h.small (sender_key e.core)))
-      ]
-
   -- Without an association there are no queues of one, and none comes by a turn that begins none.
   idle_then : identity_of_core o.after.core ≡ identity_of_core e.core → IsCall input → Turn e input o → identity_of_core o.after.core ≡ None → o.after.queues.transfer ≡ None
   idle_then linked may turn unlinked =
@@ -360,13 +366,13 @@ module _ (options : Options) (ends : Ends) (e : Endpoint) (queued : List Message
       → SenderTurns options (ends.firsts (sender_key e.core)) options.max_receiver_window_buffer_size (direction_of_ends (ends.sends (sender_key e.core)) (ends.gets (sender_key e.core))) e input o
       → AreEnds ends.calls seen options (sending_side o.after (queued_after e input queued) (after_effects o.effects past) (packets ++ packets_of_events o.events)) (receiving_side d their_past reading)
   by_turn few follows resets may turn refuses completes_so (run_goes_on linked addressed kind' acknowledged between asking is grows fit run) =
-      goes_on options ends e queued past packets d their_past reading h input o seen reported w (none_then may turn (h.mine, linked)) follows (unbegun_after few resets may turn) linked kind' addressed acknowledged asking
+      goes_on options ends e queued past packets d their_past reading h input o seen reported w (none_then may turn (h.mine, linked)) follows (rules_then follows may turn) (unbegun_after few resets may turn) linked kind' addressed acknowledged asking
       (λ begun has. grows_stays between asking grows begun (between_stays o.effects (ends.sends (sender_key e.core)).asking between is begun has)) fit
       (goes_answered (identity_of_core e.core) refl may turn refuses completes_so linked addressed kind' acknowledged between asking is grows fit (few_then addressed o.after.queues acknowledged asking run)) run
       (idle_then linked may turn)
   by_turn few follows resets may turn refuses completes_so (run_ends none addressed last kind' acknowledged asking grows fit run is shown fit') =
       let none_began = none_ended may turn none in
-      ended options ends e queued past packets d their_past reading h input o seen reported w none_began follows (unbegun_after few resets may turn) none addressed last kind' is shown fit' acknowledged asking
+      ended options ends e queued past packets d their_past reading h input o seen reported w none_began follows (rules_then follows may turn) (unbegun_after few resets may turn) none addressed last kind' is shown fit' acknowledged asking
       (grows_stays (ends.sends (sender_key e.core)).asking asking grows)
       (ends_answered (identity_of_core e.core) refl may turn completes_so none none_began addressed last kind' acknowledged asking grows fit (few_then addressed last acknowledged asking run)) run
   by_turn few follows resets may turn refuses completes_so (run_begins begun opening linked addressed kind' same shown fit later) =
@@ -375,7 +381,7 @@ module _ (options : Options) (ends : Ends) (e : Endpoint) (queued : List Message
       elim (new begun opening linked) [
         | inl is ↦
             subst (λ (l : List Message). AreEnds ends.calls seen options (sending_side o.after l (after_effects o.effects past) (packets ++ packets_of_events o.events)) (receiving_side d their_past reading)) (sym stays)
-            (begins options ends e queued past packets d their_past reading h input o w little begun (λ each has. holds_mean e input o each may turn has) follows kind' seen reported is linked addressed shown fit later)
+            (begins options ends e queued past packets d their_past reading h input o w little begun (λ each has. holds_mean e input o each may turn has) follows (rules_then follows may turn) kind' seen reported is linked addressed shown fit later)
         | inr takes ↦ replaced follows may turn same begun opening linked takes
       ]
   by_turn few follows resets may turn refuses completes_so (run_outlasts collision same later) =
@@ -412,6 +418,6 @@ module _ (options : Options) (ends : Ends) (e : Endpoint) (queued : List Message
       → AreEnds ends.calls seen options (sending_side o.after (queued_after e input queued) (after_effects o.effects past) (packets ++ packets_of_events o.events)) (receiving_side d their_past reading)
   sender_turns back few refuses resets completes_so follows may turn =
       by_turn few follows resets may turn refuses completes_so
-      (senders_go_on options (ends.firsts key) options.max_receiver_window_buffer_size now e input o (h.runs key) (h.small key) h.sender.queues_are h.asks
+      (senders_go_on options (ends.firsts key) options.max_receiver_window_buffer_size now e input o (h.runs key) (h.small key) h.sender.queues_are h.rules h.asks
       (performed_by (identity_of_core e.core) refl may turn completes_so) refuses (may_drop resets) (λ begun opening linked. small_so begun opening linked)
       (told back) (few_queued few) may turn)

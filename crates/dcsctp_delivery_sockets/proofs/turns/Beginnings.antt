@@ -1,7 +1,7 @@
 -- How directions begin: with what waits in the queue, and with no request to reset streams.
 use Rattle.dcsctp_delivery_directions.specs.directions.Directions as directions
 use Rattle.std.proofs.Common.{◌≡◌, ◌<◌, ◌≤◌, ◌^◌, ℕ, zero, suc, Option, None, Some, List, [], ◌∷◌, Bool, true, false, ◌%◌, length, refl, sym, ◌∙◌, ap, subst, inl, inr, arith}
-use Rattle.std.specs.Prelude.{◌==◌, if◌then◌else◌, map}
+use Rattle.std.specs.Prelude.{◌==◌, is_some, if◌then◌else◌, map}
 use Rattle.std.specs.List.{AllByRecursion}
 use Rattle.dcsctp_spec_lemmas.specs.types.declared.options.Options.{Options}
 use Rattle.dcsctp_spec_lemmas.specs.spec.endpoint.Endpoint.{Endpoint, Core, closed, cookie_wait, cookie_echoed, open_in, OutstandingRequest}
@@ -10,24 +10,24 @@ use Rattle.dcsctp_spec_lemmas.specs.spec.association.Effect.{identity_of_core}
 use Rattle.dcsctp_spec_lemmas.specs.spec.Packet.{Content}
 use Rattle.dcsctp_spec_lemmas.specs.spec.endpoint.Turn.{Input, arrival, refusal, packet_begins, chunk_input, packet_ends, act_input, user_sets, user_sends, user_resets, user_takes, timer_expires, time_passes, restores}
 use Rattle.dcsctp_spec_lemmas.specs.spec.queues.OwnResets.{is_open_pause}
-use Rattle.dcsctp_spec_lemmas.specs.spec.queues.SendQueue.{SendQueueState, queue_restarted, put_back, numbered_for, numbered_if_new, is_other, empty_queue}
+use Rattle.dcsctp_spec_lemmas.specs.spec.queues.SendQueue.{SendQueueState, queue_restarted, put_back, numbered_for, empty_queue}
 use Rattle.dcsctp_spec_lemmas.specs.spec.queues.Transfer.{EndpointQueues}
 use Rattle.dcsctp_spec_lemmas.specs.spec.endpoint.MessageOutcomes.{MessageRefusal, Sending, sending_refusal, queue_one}
 use Rattle.dcsctp_delivery_directions.specs.sending.Log.{Fits, Message, new_history}
 use Rattle.dcsctp_delivery_sockets.specs.turns.Actions.{Inside, OwnEnds, PeerResets, queued_unless_refused, queued_together, queued_after, BeginsAssociation}
 use Rattle.dcsctp_spec_lemmas.specs.types.queues.SendStreams.{Stream, next_numbers, renumbered_stream, stream_at}
-use Rattle.dcsctp_spec_lemmas.specs.types.declared.sending.UnderWay.{UnderWay}
 use Rattle.dcsctp_delivery_directions.specs.directions.Directions.{Beginning, BeginsAs, BeginsAtZero}
 use Rattle.dcsctp_delivery_directions.specs.sending.Numbers.{stream_named}
-use Rattle.dcsctp_delivery_directions.specs.sending.Pieces.{AllQueued, Ascend}
+use Rattle.dcsctp_delivery_directions.specs.sending.Pieces.{AllQueued, Ascend, Going}
 use Rattle.dcsctp_delivery_directions.specs.sending.Queueing.{QueueWaits}
 use Rattle.dcsctp_delivery_directions.proofs.sending.KeptQueues.{restarted_hold}
 use Rattle.dcsctp_delivery_directions.proofs.sending.Renumbered.{numbered_hold, numbered_kind}
-use Rattle.dcsctp_delivery_sockets.specs.turns.Runs.{new_direction}
+use Rattle.dcsctp_delivery_sockets.specs.turns.Runs.{TakesTurnsByOption, new_direction}
 use Rattle.dcsctp_delivery_directions.specs.directions.Directions.{Asking, nothing_asked, DirectionRun}
 use Rattle.dcsctp_spec_lemmas.specs.spec.Reconfiguration.{RequestedReset}
 use Rattle.dcsctp_delivery_sockets.specs.turns.Asking.{Own, own_of_core, AsksFit, SomeFit}
 use Rattle.dcsctp_delivery_sockets.proofs.turns.Fronts.{own_ends_fit, own_resets}
+use Rattle.dcsctp_delivery_sockets.proofs.turns.Rests.{restarted_idle, named_idle, numbered_idle}
 
 -- ---- more is queued
 
@@ -79,7 +79,7 @@ worked_fits came o old between worked own peer fits =
 
 -- ---- directions that begin
 
-pub anew_runs : (options : Options) (first size : ℕ) (queued : List Message) (below : EndpointQueues) (beginning : Beginning) → AllByRecursion Fits queued → QueueWaits queued below.queue → directions.NoneInFlight first below.queue.is_interleaved below.transfer
+pub anew_runs : (options : Options) (first size : ℕ) (queued : List Message) (below : EndpointQueues) (beginning : Beginning) → AllByRecursion Fits queued → QueueWaits queued below.queue → directions.NoneInFlight first below.queue below.transfer
     → BeginsAs beginning queued below.queue → DirectionRun options first size (new_direction options first size queued below 0 [] beginning)
 anew_runs options first size queued below beginning fit queues none begun =
     directions.begins (new_direction options first size queued below 0 [] beginning)
@@ -96,7 +96,7 @@ fresh_waits mine =
           ascend = none_ascend;
           beyond = λ q n f at of. absurd (cc);
           distinct = λ p q below below' same. absurd (omega arith);
-          going = tt;
+          going = none_going;
           room = record { whole = omega arith; count = omega arith };
           small = none_small;
         };
@@ -108,11 +108,16 @@ fresh_waits mine =
             closes = λ n f g at. absurd (cc);
             rests = λ none f at. absurd (cc);
           };
-          kept = tt;
+          kept = λ id is. absurd (cc);
+          whole = record { each = λ id w is. absurd (cc); held = λ id is. absurd (cc); newest = λ id is. absurd (cc) };
         };
       };
     }
   where
+    none_going : (q : ℕ) → Going [] [] (stream_at [] q) (stream_at [] q).under_way
+    none_going zero = tt
+    none_going (suc q) = tt
+
     none_waits : (q : ℕ) → AllQueued [] (stream_at [] q).id (stream_at [] q).messages
     none_waits zero = tt
     none_waits (suc q) = tt
@@ -125,14 +130,19 @@ fresh_waits mine =
     none_ascend zero = tt
     none_ascend (suc q) = tt
 
+none_restarted : (queue : SendQueueState) (id : ℕ) → is_some (stream_named id (queue_restarted queue).streams).under_way ≡ true → ⊥
+none_restarted queue id some = (let clash : false ≡ true = sym (ap is_some (named_idle id (queue_restarted queue).streams (restarted_idle queue))) ∙ some in absurd (cc))
+
 -- the queue of an association that begins
-pub begun_queues : (e : Endpoint) (o : Outcome) (begun : BeginsAssociation e o) (queued : List Message) → QueueWaits queued e.queues.queue → QueueWaits queued begun.queue
-begun_queues e o begun queued queues =
+pub begun_queues : (e : Endpoint) (o : Outcome) (begun : BeginsAssociation e o) (queued : List Message) → TakesTurnsByOption e → QueueWaits queued e.queues.queue → QueueWaits queued begun.queue
+begun_queues e o begun queued rules queues =
     elim begun.keeps [
-      | inl is ↦ subst (λ (q : SendQueueState). QueueWaits queued q) (sym is.0) (numbered_hold queued begun.held.capabilities.message_interleaving e.queues.queue queues)
+      | inl is ↦
+          subst (λ (q : SendQueueState). QueueWaits queued q) (sym is.0) (numbered_hold queued begun.held.capabilities.message_interleaving e.queues.queue (λ id some. rules ∙ is.1) queues)
       | inr is ↦
           subst (λ (q : SendQueueState). QueueWaits queued q) (sym is)
-          (numbered_hold queued begun.held.capabilities.message_interleaving (queue_restarted e.queues.queue) (restarted_hold queued (new_history queues.floors) e.queues.queue queues.holds))
+          (numbered_hold queued begun.held.capabilities.message_interleaving (queue_restarted e.queues.queue) (λ id some. absurd (none_restarted e.queues.queue id some))
+          (restarted_hold queued (new_history queues.floors) e.queues.queue queues.holds))
     ]
 
 -- it numbers messages as what is in flight will be sent
@@ -165,23 +175,15 @@ renamed_open id (stream ∷ streams) = go (stream.id == id) (renamed_open id str
     go true rest = refl
     go false rest = rest
 
-put_back_idle : (under_way : Option UnderWay) (queue : SendQueueState) → queue.under_way ≡ under_way → (put_back under_way queue).under_way ≡ None
-put_back_idle None queue is = is
-put_back_idle (Some under_way) queue is = refl
-
-numbered_idle : (enabled : Bool) (queue : SendQueueState) → queue.under_way ≡ None → numbered_for enabled queue ≡ record queue { is_interleaved = enabled }
-numbered_idle enabled queue idle = ap (λ (u : Option UnderWay). numbered_if_new u (is_other queue.is_interleaved enabled) (record queue { is_interleaved = enabled })) idle
-
 -- A queue whose numbers start again begins so.
 restarted_at_zero : (enabled : Bool) (queue : SendQueueState) → BeginsAtZero (numbered_for enabled (queue_restarted queue))
 restarted_at_zero enabled queue =
-    let idle : (queue_restarted queue).under_way ≡ None = put_back_idle queue.under_way queue refl in
-    subst BeginsAtZero (sym (numbered_idle enabled (queue_restarted queue) idle))
+    subst BeginsAtZero (sym (numbered_idle enabled (queue_restarted queue) (restarted_idle queue)))
     (record {
-      rest = λ u waiting is front. absurd (let clash : None ≡ Some u = sym idle ∙ is in cc);
-      zero = λ id. ap (λ (p : ℕ × ℕ). p.1 % 2 ^ 32) (renamed_zero id (put_back queue.under_way queue).streams);
-      ssn = λ id. ap (λ (p : ℕ × ℕ). p.0) (renamed_zero id (put_back queue.under_way queue).streams);
-      unpaused = λ id. renamed_open id (put_back queue.under_way queue).streams;
+      rest = λ id waiting some. absurd (none_restarted queue id some);
+      zero = λ id. ap (λ (p : ℕ × ℕ). p.1 % 2 ^ 32) (renamed_zero id (put_back queue).streams);
+      ssn = λ id. ap (λ (p : ℕ × ℕ). p.0) (renamed_zero id (put_back queue).streams);
+      unpaused = λ id. renamed_open id (put_back queue).streams;
     })
 
 -- With `follow_rfc` each association begins so (RFC 9260, section 6.5).

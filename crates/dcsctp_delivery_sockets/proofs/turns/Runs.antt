@@ -15,11 +15,11 @@ senders_begin mine options first size keeps asks =
 
 pub begins_anew : SendersBeginAgain
 begins_anew options first size asks queued below fit queues none =
-    anew_runs options first size queued below (record { from_zero = false; keeps = λ id. false; asks = asks }) fit queues (subst (directions.NoneInFlight first below.queue.is_interleaved) (sym none) tt) (record { zero = λ is. absurd (cc); all = λ id is. absurd (cc) })
+    anew_runs options first size queued below (record { from_zero = false; keeps = λ id. false; asks = asks }) fit queues (subst (directions.NoneInFlight first below.queue) (sym none) tt) (record { zero = λ is. absurd (cc); all = λ id is. absurd (cc) })
 
 pub senders_go_on : SendersGoOn
-senders_go_on options first size direction e input o run small same fits performed refuses drops opens told few may turn =
-    sender_becomes options first size direction e input o run small same fits performed refuses drops opens told few (turns_are_actions e input o may turn)
+senders_go_on options first size direction e input o run small same rules fits performed refuses drops opens told few may turn =
+    sender_becomes options first size direction e input o run small same rules fits performed refuses drops opens told few (turns_are_actions e input o may turn)
 
 pub receivers_go_on : ReceiversGoOn
 receivers_go_on is_known options first size direction transfer e input o run known was newest fits small may turn =

@@ -17,7 +17,7 @@ use Rattle.dcsctp_delivery_sockets.specs.turns.Reports.{ComesReported}
 use Rattle.dcsctp_delivery_sockets.proofs.turns.Idle.{opening_reports}
 use Rattle.dcsctp_spec_lemmas.specs.spec.association.Effect.{identity_of_core}
 use Rattle.dcsctp_spec_lemmas.specs.types.queues.Messages.{MessageContent}
-use Rattle.dcsctp_delivery_sockets.specs.turns.Runs.{direction_with_sender, IsBetween, as_it_was, once_renewed, OpensSmall, EndsPerformed, RefusesNone, MayDrop, IsTrueAcknowledgement, SenderTurns, run_goes_on, run_ends, run_begins, run_outlasts}
+use Rattle.dcsctp_delivery_sockets.specs.turns.Runs.{direction_with_sender, IsBetween, as_it_was, once_renewed, TakesTurnsByOption, OpensSmall, EndsPerformed, RefusesNone, MayDrop, IsTrueAcknowledgement, SenderTurns, run_goes_on, run_ends, run_begins, run_outlasts}
 use Rattle.dcsctp_delivery_directions.specs.directions.Directions.{Asking, nothing_asked, asking_renewed, Direction, Beginning, HasReached, BeginsAs, DirectionRun, IsAwaited}
 use Rattle.dcsctp_delivery_sockets.proofs.turns.Sides.{one_step, steps_go_on, actions_send}
 use Rattle.dcsctp_spec_lemmas.specs.spec.Reconfiguration.{RequestedReset, renewed_reset}
@@ -32,8 +32,9 @@ use Rattle.dcsctp_delivery_sockets.proofs.turns.Outlasts.{outlasts_goes}
 use Rattle.dcsctp_delivery_sockets.specs.turns.Sides.{received_so_far}
 use Rattle.dcsctp_delivery_sockets.proofs.turns.Begun.{grows_not}
 use Rattle.dcsctp_delivery_sockets.proofs.turns.Beginnings.{input_more, nothing_fits, begun_queues, begun_kind}
+use Rattle.dcsctp_delivery_sockets.proofs.turns.Rests.{begun_rests}
 
-module _ (options : Options) (first size : ℕ) (direction : Direction) (e : Endpoint) (input : Input) (o : Outcome) (run : DirectionRun options first size direction) (small : first < 2 ^ 32) (same : direction.queues ≡ e.queues)
+module _ (options : Options) (first size : ℕ) (direction : Direction) (e : Endpoint) (input : Input) (o : Outcome) (run : DirectionRun options first size direction) (small : first < 2 ^ 32) (same : direction.queues ≡ e.queues) (rules : TakesTurnsByOption e)
     (fits : AsksFit first (own_of e) direction.asking) (performed : EndsPerformed e o direction.asking) (refuses : RefusesNone e o) (drops : MayDrop e input (length direction.queued) direction.beginning) (opens : OpensSmall e input o) (told : IsTrueAcknowledgement direction e input) (few : length (queued_after e input direction.queued) < 2 ^ 64) where
   both : QueueWaits direction.queued direction.queues.queue × AllByRecursion Fits direction.queued
   both = direction_queues options first size direction run small (let more = input_more e input direction.queued in omega (arith, few, more))
@@ -127,7 +128,7 @@ module _ (options : Options) (first size : ℕ) (direction : Direction) (e : End
       later other room awaiting queued beginning shown fit waits awaited zeros =
           let there : Direction = record awaiting { beginning = beginning } in
           let start : DirectionRun other begun.my.first_tsn room (direction_with_sender there queued (opening_queues e o begun) there.acknowledged there.sent there.asking) =
-          directions.starts awaiting queued (opening_queues e o begun) beginning waits awaited fit (begun_queues e o begun queued shown) (refl, refl, sym (begun_kind e o begun)) zeros in
+          directions.starts awaiting queued (opening_queues e o begun) beginning waits awaited fit (begun_queues e o begun queued rules shown) (refl, refl, sym (begun_kind e o begun), begun_rests e o begun queued rules shown) zeros in
           let numbered : DirectionRun other begun.my.first_tsn room (direction_with_sender there queued (opening_queues e o begun) 0 there.sent there.asking) =
           subst (λ (g : ℕ). DirectionRun other begun.my.first_tsn room (direction_with_sender there queued (opening_queues e o begun) g there.sent there.asking)) awaited.acknowledged start in
           let unsent : DirectionRun other begun.my.first_tsn room (direction_with_sender there queued (opening_queues e o begun) 0 [] there.asking) =

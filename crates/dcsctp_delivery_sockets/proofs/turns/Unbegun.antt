@@ -1,9 +1,8 @@
 -- A socket that has had no association has begun no message.
 use Rattle.std.proofs.Common.{◌≡◌, ◌==◌, ℕ, Bool, true, false, ◌%◌, ◌^◌, Option, None, Some, List, [], ◌∷◌, map, refl, sym, ◌∙◌, ap, subst, inl, inr}
-use Rattle.std.specs.Prelude.{if◌then◌else◌}
+use Rattle.std.specs.Prelude.{is_some, nat_lt, if◌then◌else◌}
 use Rattle.dcsctp_spec_lemmas.specs.types.declared.sending.Pause.TheVariants.{Open}
-use Rattle.dcsctp_spec_lemmas.specs.types.declared.sending.UnderWay.{UnderWay}
-use Rattle.dcsctp_spec_lemmas.specs.types.queues.SendStreams.{Stream, unused_stream, next_numbers, with_message, renumbered_stream}
+use Rattle.dcsctp_spec_lemmas.specs.types.queues.SendStreams.{Stream, unused_stream, next_numbers, with_message, stream_put_back, renumbered_stream}
 use Rattle.dcsctp_spec_lemmas.specs.types.Setting.{Setting, stream_priority, stream_low_threshold, longest_message}
 use Rattle.dcsctp_spec_lemmas.specs.spec.Packet.{Content}
 use Rattle.dcsctp_spec_lemmas.specs.spec.association.Effect.{identity_of_core}
@@ -16,7 +15,7 @@ use Rattle.dcsctp_spec_lemmas.specs.spec.endpoint.PreparedResets.{refusal_of_pee
 use Rattle.dcsctp_spec_lemmas.specs.spec.endpoint.SettingOutcomes.{set_in_queue}
 use Rattle.dcsctp_spec_lemmas.specs.spec.endpoint.Turn.{Input}
 use Rattle.dcsctp_spec_lemmas.specs.spec.queues.OwnResets.{is_open_pause}
-use Rattle.dcsctp_spec_lemmas.specs.spec.queues.SendQueue.{SendQueueState, stream_changed, used_streams, queued_message as waiting_as, with_priority, with_threshold, put_back, queue_restarted, is_other, numbered_if_new, numbered_for}
+use Rattle.dcsctp_spec_lemmas.specs.spec.queues.SendQueue.{SendQueueState, stream_changed, with_stream, is_used, used_streams, queued_message as waiting_as, with_priority, with_threshold, put_back, queue_restarted, numbered_for}
 use Rattle.dcsctp_spec_lemmas.specs.spec.queues.Transfer.{Transfer, EndpointQueues}
 use Rattle.dcsctp_delivery_directions.specs.sending.Numbers.{stream_named}
 use Rattle.dcsctp_delivery_directions.proofs.sending.StreamsNamed.{found_mapped, found_used}
@@ -28,6 +27,7 @@ use Rattle.dcsctp_delivery_sockets.specs.turns.Asking.{Own, own_of_core, own_of,
 use Rattle.dcsctp_delivery_sockets.specs.turns.Actions.{Ledger, Action, queues, sets, flushes, resends, resends_nothing, speaks, asks_again, acknowledges, loses, receives, receives_interleaved, forwards, forwards_interleaved, tracks, times, takes, Actions, nothing, further, content_of_input, peer_tag, queued_after, read_after, Inside, inside, MakesAlso, OwnEnds, unended, committed, rolled_back, PeerResets, unreset, absent, deferred, reset_now, BeginsAssociation, Becomes, streams_user_resets, goes_on, pauses, works_resets, renews, ends, begins, collides}
 use Rattle.dcsctp_delivery_sockets.specs.turns.Unbegun.{IsAtZero, UnbegunTurns, stays_unbegun, begins_first, StaysWaiting, StaysAtZero, UnbegunBeginsAtZero, UnbegunBeginsWaiting, FreshIsAtZero}
 use Rattle.dcsctp_delivery_sockets.proofs.turns.Beginnings.{unlinked_fits}
+use Rattle.dcsctp_delivery_sockets.proofs.turns.Rests.{AreIdle, restarted_idle, named_idle, numbered_idle}
 use Rattle.dcsctp_delivery_sockets.proofs.turns.IdleFlush.{flush_still}
 use Rattle.dcsctp_delivery_sockets.proofs.turns.Turns.{turns_are_actions}
 use Rattle.dcsctp_delivery_sockets.proofs.turns.UnbegunOn.{WaitsOnStream, all_on_stream, actions_wait_on}
@@ -65,7 +65,7 @@ next_changed other f same each streams id =
 
 -- one is used for the first time
 next_used : (queue : SendQueueState) (other : ℕ) → NextStay queue.streams (used_streams queue other)
-next_used queue other id = found_used SameNext id queue other same_next (λ s t unordered ordered none pause. record { ordered = sym ordered; unordered = sym unordered; pause = pause })
+next_used queue other id = found_used SameNext id queue other same_next (λ s t are. record { ordered = sym are.ordered; unordered = sym are.unordered; pause = are.pause })
 
 -- one is used, and changed
 next_set : (queue : SendQueueState) (other : ℕ) (f : Stream → Stream) → ((s : Stream) → (f s).id ≡ s.id) → ((s : Stream) → SameNext s (f s)) → NextStay queue.streams (stream_changed other f (used_streams queue other))
@@ -74,25 +74,54 @@ next_set queue other f same each =
 
 -- ---- queues that stay at 0
 
-zero_stays : (old new : SendQueueState) → new.under_way ≡ old.under_way → NextStay old.streams new.streams → IsAtZero old → IsAtZero new
-zero_stays old new going stay zero =
+zero_stays : (old new : SendQueueState) → (AreIdle old.streams → AreIdle new.streams) → NextStay old.streams new.streams → IsAtZero old → IsAtZero new
+zero_stays old new idle stay zero =
     record {
-      idle = going ∙ zero.idle;
+      idle = idle zero.idle;
       ordered = λ id. (stay id).ordered ∙ zero.ordered id;
       unordered = λ id. (stay id).unordered ∙ zero.unordered id;
       unpaused = λ id. ap is_open_pause (stay id).pause ∙ zero.unpaused id;
     }
 
+-- one stream is used, and changed
+idle_changed : (other : ℕ) (f : Stream → Stream) → ((s : Stream) → (f s).under_way ≡ s.under_way) → (streams : List Stream) → AreIdle streams → AreIdle (stream_changed other f streams)
+idle_changed other f keeps [] idle = tt
+idle_changed other f keeps (s ∷ streams) idle = (one (s.id == other), idle_changed other f keeps streams idle.1)
+  where
+    one : (b : Bool) → (if b then f s else s).under_way ≡ None
+    one true = keeps s ∙ idle.0
+    one false = idle.0
+
+idle_added : (other priority threshold : ℕ) (streams : List Stream) → AreIdle streams → AreIdle (with_stream (unused_stream other priority threshold) streams)
+idle_added other priority threshold [] idle = (refl, tt)
+idle_added other priority threshold (s ∷ streams) idle = go (nat_lt s.id other) (idle_added other priority threshold streams idle.1)
+  where
+    go : (b : Bool) → AreIdle (with_stream (unused_stream other priority threshold) streams) → AreIdle (if b then s ∷ with_stream (unused_stream other priority threshold) streams else unused_stream other priority threshold ∷ s ∷ streams)
+    go true rest = (idle.0, rest)
+    go false rest = (refl, (idle.0, idle.1))
+
+idle_used : (queue : SendQueueState) (other : ℕ) → AreIdle queue.streams → AreIdle (used_streams queue other)
+idle_used queue other idle = go (is_used other queue.streams)
+  where
+    go : (b : Bool) → AreIdle (if b then queue.streams else with_stream (unused_stream other queue.default_priority queue.default_threshold) queue.streams)
+    go true = idle
+    go false = idle_added other queue.default_priority queue.default_threshold queue.streams idle
+
+idle_set : (queue : SendQueueState) (other : ℕ) (f : Stream → Stream) → ((s : Stream) → (f s).under_way ≡ s.under_way) → AreIdle queue.streams → AreIdle (stream_changed other f (used_streams queue other))
+idle_set queue other f keeps idle = idle_changed other f keeps (used_streams queue other) (idle_used queue other idle)
+
 zero_queued : (now : ℕ) (sending : Sending) (queue : SendQueueState) → IsAtZero queue → IsAtZero (sending_queued now sending queue)
 zero_queued now sending queue =
-    zero_stays queue (sending_queued now sending queue) refl
+    zero_stays queue (sending_queued now sending queue) (idle_set queue sending.message.stream (with_message (waiting_as now sending.message sending.options queue)) (λ s. refl))
     (next_set queue sending.message.stream (with_message (waiting_as now sending.message sending.options queue)) (λ s. refl) (λ s. record { ordered = refl; unordered = refl; pause = refl }))
 
 zero_set : (setting : Setting) (queue : SendQueueState) → IsAtZero queue → IsAtZero (set_in_queue setting queue)
 zero_set (stream_priority id priority) queue =
-    zero_stays queue (set_in_queue (stream_priority id priority) queue) refl (next_set queue id (with_priority priority) (λ s. refl) (λ s. record { ordered = refl; unordered = refl; pause = refl }))
+    zero_stays queue (set_in_queue (stream_priority id priority) queue) (idle_set queue id (with_priority priority) (λ s. refl))
+    (next_set queue id (with_priority priority) (λ s. refl) (λ s. record { ordered = refl; unordered = refl; pause = refl }))
 zero_set (stream_low_threshold id bytes) queue =
-    zero_stays queue (set_in_queue (stream_low_threshold id bytes) queue) refl (next_set queue id (with_threshold bytes) (λ s. refl) (λ s. record { ordered = refl; unordered = refl; pause = refl }))
+    zero_stays queue (set_in_queue (stream_low_threshold id bytes) queue) (idle_set queue id (with_threshold bytes) (λ s. refl))
+    (next_set queue id (with_threshold bytes) (λ s. refl) (λ s. record { ordered = refl; unordered = refl; pause = refl }))
 zero_set (longest_message bytes) queue = λ zero. zero
 
 -- ---- actions without an association
@@ -214,10 +243,7 @@ stays_at_zero e input o unlinked none zero may turn =
 -- ---- the queue of an association that begins
 
 pub fresh_is_at_zero : FreshIsAtZero
-fresh_is_at_zero options = record { idle = refl; ordered = λ id. refl; unordered = λ id. refl; unpaused = λ id. refl }
-
-numbered_idle : (enabled : Bool) (queue : SendQueueState) → queue.under_way ≡ None → numbered_for enabled queue ≡ record queue { is_interleaved = enabled }
-numbered_idle enabled queue idle = ap (λ (u : Option UnderWay). numbered_if_new u (is_other queue.is_interleaved enabled) (record queue { is_interleaved = enabled })) idle
+fresh_is_at_zero options = record { idle = tt; ordered = λ id. refl; unordered = λ id. refl; unpaused = λ id. refl }
 
 -- How messages are numbered may change.
 zero_numbered : (enabled : Bool) (queue : SendQueueState) → IsAtZero queue → IsAtZero (numbered_for enabled queue)
@@ -227,30 +253,26 @@ zero_numbered enabled queue zero = subst IsAtZero (sym (numbered_idle enabled qu
 StartsAgain : Stream → Stream → Type 0
 StartsAgain old new = (next_numbers false new ≡ (0, 0)) × (next_numbers true new ≡ (0, 0)) × (new.pause ≡ Open)
 
-zero_restarted : (queue : SendQueueState) → IsAtZero queue → IsAtZero (queue_restarted queue)
+zero_restarted : (queue : SendQueueState) → IsAtZero (queue_restarted queue)
 unfolding StartsAgain
-zero_restarted queue zero = record { idle = put_back_idle queue.under_way zero.idle; ordered = λ id. (again id).0; unordered = λ id. (again id).1; unpaused = λ id. ap is_open_pause (again id).2 }
+zero_restarted queue = record { idle = restarted_idle queue; ordered = λ id. (again id).0; unordered = λ id. (again id).1; unpaused = λ id. ap is_open_pause (again id).2 }
   where
-    put_back_idle : (under_way : Option UnderWay) → under_way ≡ None → (put_back under_way queue).under_way ≡ None
-    put_back_idle None is = zero.idle
-    put_back_idle (Some under_way) is = refl
-
-    again : (id : ℕ) → StartsAgain (stream_named id (put_back queue.under_way queue).streams) (stream_named id (queue_restarted queue).streams)
-    again id = found_mapped StartsAgain id (unused_stream 0 0 0) renumbered_stream (λ s. refl) (refl, refl, refl) (λ s is. (refl, refl, refl)) (put_back queue.under_way queue).streams
+    again : (id : ℕ) → StartsAgain (stream_named id (put_back queue).streams) (stream_named id (queue_restarted queue).streams)
+    again id = found_mapped StartsAgain id (unused_stream 0 0 0) renumbered_stream (λ s. refl) (refl, refl, refl) (λ s is. (refl, refl, refl)) (put_back queue).streams
 
 -- Either way its queue is at 0.
 pub begun_is_at_zero : (e : Endpoint) (o : Outcome) (begun : BeginsAssociation e o) → IsAtZero e.queues.queue → IsAtZero begun.queue
 begun_is_at_zero e o begun zero =
     elim begun.keeps [
       | inl is ↦ subst IsAtZero (sym is.0) (zero_numbered begun.held.capabilities.message_interleaving e.queues.queue zero)
-      | inr is ↦ subst IsAtZero (sym is) (zero_numbered begun.held.capabilities.message_interleaving (queue_restarted e.queues.queue) (zero_restarted e.queues.queue zero))
+      | inr is ↦ subst IsAtZero (sym is) (zero_numbered begun.held.capabilities.message_interleaving (queue_restarted e.queues.queue) (zero_restarted e.queues.queue))
     ]
 
 -- Such a queue begins with number 0 on each stream.
 pub zero_begins : (queue : SendQueueState) → IsAtZero queue → BeginsAtZero queue
 zero_begins queue zero =
     record {
-      rest = λ u waiting is front. absurd (let both : None ≡ Some u = sym zero.idle ∙ is in cc);
+      rest = λ id waiting some. absurd (let clash : false ≡ true = sym (ap is_some (named_idle id queue.streams zero.idle)) ∙ some in cc);
       zero = λ id. ap (λ (p : ℕ × ℕ). p.1 % 2 ^ 32) (zero.ordered id);
       ssn = λ id. ap (λ (p : ℕ × ℕ). p.0) (zero.ordered id);
       unpaused = zero.unpaused;
@@ -270,16 +292,13 @@ module _ (id : ℕ) (queued : List Message) where
   restarted_open [] = tt
   restarted_open (stream ∷ streams) = (λ on. refl, restarted_open streams)
 
-  all_restarted : (queue : SendQueueState) → IsAtZero queue → AllWaitOn id queued queue.streams → AllWaitOn id queued (queue_restarted queue).streams
-  all_restarted queue zero all = go queue.under_way zero.idle
-    where
-      go : (under_way : Option UnderWay) → under_way ≡ None → AllWaitOn id queued (map renumbered_stream (put_back under_way queue).streams)
-      go None is =
-          record {
-            waits = λ place message at on. waits_mapped renumbered_stream (λ s w has. has) queue.streams place (all.waits place message at on);
-            unpaused = restarted_open queue.streams;
-          }
-      go (Some under_way) is = absurd (cc)
+  all_restarted : (queue : SendQueueState) → AllWaitOn id queued queue.streams → AllWaitOn id queued (queue_restarted queue).streams
+  all_restarted queue all =
+      record {
+        waits = λ place message at on.
+            waits_mapped renumbered_stream (λ s w has. has) (map stream_put_back queue.streams) place (waits_mapped stream_put_back (λ s w has. has) queue.streams place (all.waits place message at on));
+        unpaused = restarted_open (map stream_put_back queue.streams);
+      }
 
 pub unbegun_begins_waiting : UnbegunBeginsWaiting
 unbegun_begins_waiting e o begun id queued zero all =
@@ -289,5 +308,5 @@ unbegun_begins_waiting e o begun id queued zero all =
           (all_numbered id queued begun.held.capabilities.message_interleaving e.queues.queue zero all)
       | inr is ↦
           subst (λ (q : SendQueueState). AllWaitOn id queued q.streams) (sym is)
-          (all_numbered id queued begun.held.capabilities.message_interleaving (queue_restarted e.queues.queue) (zero_restarted e.queues.queue zero) (all_restarted id queued e.queues.queue zero all))
+          (all_numbered id queued begun.held.capabilities.message_interleaving (queue_restarted e.queues.queue) (zero_restarted e.queues.queue) (all_restarted id queued e.queues.queue all))
     ]

@@ -33,6 +33,7 @@ use Rattle.dcsctp_delivery_sockets.specs.turns.Actions.{NoEnd, peer_tag}
 use Rattle.dcsctp_delivery_sockets.specs.turns.Reports.{AllReportSo, NoReports}
 use Rattle.dcsctp_delivery_sockets.specs.turns.Unbegun.{IsAtZero}
 use Rattle.dcsctp_delivery_sockets.specs.turns.Untouched.{IsTransferUntouched, EchoesMaker}
+use Rattle.dcsctp_delivery_sockets.specs.turns.Runs.{TakesTurnsByOption}
 use Rattle.dcsctp_delivery_sockets.specs.associations.Reads.{ReportedReset, Reading, tags_of, with_key, AreOfLink, AllOfLinks}
 
 -- ---- the two ends of a direction
@@ -406,6 +407,7 @@ pub record Between (options : Options) (ends : Ends) (from : SendingSide) (to : 
   pub numbered : (tag : ℕ) → tag ≢ 0 → NumbersFromZero from.endpoint from.past tag → (ends.sends tag).beginning.from_zero ≡ true
   pub kept : (tag : ℕ) → tag ≢ 0 → IsOnlyOwn from.past tag → KeepsThese ends.calls (ends.sends tag).beginning
   pub dropping : (tag : ℕ) → KeepsOnlyThese ends.calls (ends.sends tag).beginning
+  pub rules : TakesTurnsByOption from.endpoint
   pub unbegun : NeverHeld from.past → IsUnbegun ends.calls (ends.sends (sender_key from.endpoint.core)).queued from.endpoint
   pub receiver : Receiver options ends to.endpoint to.past to.reading
   pub alone : (tag : ℕ) → MetOrAlone options ends from.past to.past tag

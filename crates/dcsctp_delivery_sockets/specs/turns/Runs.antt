@@ -121,10 +121,14 @@ OpensSmall e input o = (begun : BeginsAssociation e o) → IsOpening (content_of
 abbrev pub IsTrueAcknowledgement : Direction → Endpoint → Input → Type 0
 IsTrueAcknowledgement direction e input = (transfer : Transfer) → e.queues.transfer ≡ Some transfer → ComesReported (HasReached direction.first_tsn direction.tracker) (content_of_input input)
 
+-- Streams of equal priority take turns by the option.
+abbrev pub TakesTurnsByOption : Endpoint → Type 0
+TakesTurnsByOption e = e.queues.queue.takes_turns ≡ e.options.follow_rfc
+
 -- This holds for each turn, also of a closed socket, with a direction on which nothing is in flight.
 abbrev pub SendersGoOn : Type 0
 SendersGoOn =
-    (options : Options) (first size : ℕ) (direction : Direction) (e : Endpoint) (input : Input) (o : Outcome) → DirectionRun options first size direction → first < 2 ^ 32 → direction.queues ≡ e.queues
+    (options : Options) (first size : ℕ) (direction : Direction) (e : Endpoint) (input : Input) (o : Outcome) → DirectionRun options first size direction → first < 2 ^ 32 → direction.queues ≡ e.queues → TakesTurnsByOption e
     → AsksFit first (own_of e) direction.asking → EndsPerformed e o direction.asking → RefusesNone e o → MayDrop e input (length direction.queued) direction.beginning → OpensSmall e input o → IsTrueAcknowledgement direction e input
     → length (queued_after e input direction.queued) < 2 ^ 64 → IsCall input → Turn e input o → SenderTurns options first size direction e input o
 

@@ -1,8 +1,9 @@
 -- A socket that has had no association has begun no message, so its queue is at number 0 when the
 -- first one begins, with `follow_rfc` or without (RFC 9260, section 6.5).
 use Rattle.std.specs.Prelude.{◌≡◌, ◌<◌, ◌^◌, ℕ, true, false, None, Some, List, length}
+use Rattle.std.specs.List.{AllByRecursion}
 use Rattle.dcsctp_spec_lemmas.specs.types.declared.options.Options.{Options}
-use Rattle.dcsctp_spec_lemmas.specs.types.queues.SendStreams.{next_numbers}
+use Rattle.dcsctp_spec_lemmas.specs.types.queues.SendStreams.{Stream, next_numbers}
 use Rattle.dcsctp_spec_lemmas.specs.spec.association.Effect.{identity_of, identity_of_core}
 use Rattle.dcsctp_spec_lemmas.specs.spec.endpoint.Endpoint.{Endpoint}
 use Rattle.dcsctp_spec_lemmas.specs.spec.endpoint.Outcome.{Outcome}
@@ -18,7 +19,7 @@ use Rattle.dcsctp_delivery_sockets.specs.turns.Actions.{content_of_input, queued
 
 -- No message is under way, the next one of each stream, ordered or not, has SSN 0 and MID 0, and none is to be reset.
 pub record IsAtZero (queue : SendQueueState) : Type 0 where
-  pub idle : queue.under_way ≡ None
+  pub idle : AllByRecursion (λ (stream : Stream). stream.under_way ≡ None) queue.streams
   pub ordered : (id : ℕ) → next_numbers false (stream_named id queue.streams) ≡ (0, 0)
   pub unordered : (id : ℕ) → next_numbers true (stream_named id queue.streams) ≡ (0, 0)
   pub unpaused : (id : ℕ) → is_open_pause (stream_named id queue.streams).pause ≡ true

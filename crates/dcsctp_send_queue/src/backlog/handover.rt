@@ -6,23 +6,19 @@ ghost use Rattle.dcsctp_api.specs.spec.queues.QueuedParts.{with_progress};
 
 use super::Backlog;
 use crate::UnderWay;
+use dcsctp_api::SocketTime;
 use dcsctp_api::types::{HandoverOutgoingStream, HandoverStreamMessage};
-use dcsctp_api::{SocketTime, StreamId};
 use std::alloc::AllocError;
 
 // Says of the messages of a stream which of them is under way, and how far it has come: it is the first.
-fn mark_under_way(
-    parts: &mut Vec<HandoverStreamMessage>,
-    stream_id: StreamId,
-    under_way: Option<UnderWay>,
-)
+fn mark_under_way(parts: &mut Vec<HandoverStreamMessage>, under_way: Option<UnderWay>)
     ensures { map queued_part parts.new.items
-        ≡ with_progress under_way stream_id.0 (map queued_part parts.old.items) }
+        ≡ with_progress under_way (map queued_part parts.old.items) }
 {
     let Some(under_way) = under_way else {
         return;
     };
-    if under_way.stream_id.0 != stream_id.0 || parts.is_empty() {
+    if parts.is_empty() {
         return;
     }
     let part = &mut parts[0];
@@ -57,13 +53,13 @@ impl Backlog {
     ) -> Result<Vec<HandoverStreamMessage>, AllocError>
         ensures { IfOk result
             (λ parts. map queued_part parts.items
-            ≡ flat_map (messages_given now self.now.under_way) self.now.streams) }
+            ≡ flat_map (messages_given now) self.now.streams) }
     {
         let mut all = Vec::new(self.alloc);
         for place in 0..self.streams.len() {
             let stream = self.streams.at(place);
             let mut parts = stream.handover_messages(self.alloc, now)?;
-            mark_under_way(&mut parts, stream.id(), self.under_way);
+            mark_under_way(&mut parts, stream.under_way());
             all.append(&mut parts)?;
         }
         Ok(all)

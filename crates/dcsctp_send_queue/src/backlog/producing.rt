@@ -8,14 +8,14 @@ use dcsctp_api::{Events, SocketTime, StreamId};
 use std::alloc::AllocError;
 
 impl Backlog {
-    ghost use Rattle.dcsctp_send_queue.specs.Backlog.{queue_of};
-    ghost use Rattle.dcsctp_api.specs.spec.queues.SendQueue.{CanGoOn, IsUnderWay, is_front_unordered, renumbered_under_way, numbered_for};
+    ghost use Rattle.dcsctp_send_queue.specs.Backlog.{queue_of, HasHeldStream};
+    ghost use Rattle.dcsctp_api.specs.spec.queues.SendQueue.{HaveBytes, CanGoOn, is_front_unordered};
     ghost use Rattle.std.specs.Option.{option_map};
     ghost use Rattle.std.specs.Prelude.{◌≡◌, ◌==◌, ◌+◌, ◌-◌, ◌<◌, ◌++◌, ℕ, length, Some, None, Ok, OnOk, OnErr, IfOk, IfSome};
-    ghost use Rattle.dcsctp_api.specs.types.queues.SendStreams.{Waiting, front_of, is_expired, stream_at};
+    ghost use Rattle.dcsctp_api.specs.types.queues.SendStreams.{Waiting, front_of, stream_at};
     ghost use Rattle.dcsctp_send_queue.specs.Telling.{contents, AddsFront};
     ghost use Rattle.dcsctp_send_queue.specs.Fragment.{HasSize};
-    ghost use Rattle.dcsctp_api.specs.spec.queues.Sending.{next_turn, begun_message_counted, fragment, after_part, part_events, after_last, last_events, DropsAll, size_produced, queue_after_producing, produced_events, begun_under_way, TakesNextFragment, DiscardsNamed};
+    ghost use Rattle.dcsctp_api.specs.spec.queues.Sending.{fragment, after_part, part_events, after_last, last_events, DropsAll, size_produced, queue_after_producing, produced_events, begun_under_way, next_progress, is_too_old, TakesNextFragment, DiscardsNamed};
     ghost use Rattle.dcsctp_send_queue.specs.Leaving.{HasMore, HasUnsentBytes, DropsSome, NextUnexpired};
     ghost use Rattle.dcsctp_send_queue.specs.Calls.{StopsTaking, StopsDiscarding};
 
@@ -39,7 +39,7 @@ impl Backlog {
     }
 
     // Is the oldest message of the stream unordered?
-    fn is_front_unordered(&self, place: usize) -> bool
+    pub(super) fn is_front_unordered(&self, place: usize) -> bool
         requires { place < length self.now.streams }
         ensures { result ≡ is_front_unordered (stream_at self.now.streams place).messages }
     {
@@ -49,53 +49,18 @@ impl Backlog {
         }
     }
 
-    /// Sets whether messages are interleaved from now on. If that is new, other numbers count than before.
-    /// The message under way then takes the next one of its stream, so that no other message has the same.
-    pub fn interleave(&mut self, enabled: bool)
-        requires { CanGoOn self.old.streams self.old.under_way }
-        ensures whole { queue_of self.new ≡ numbered_for enabled (queue_of self.old) }
-        ensures can { CanGoOn self.new.streams self.new.under_way }
-    {
-        match (self.is_interleaved, enabled) {
-            (false, false) | (true, true) => {}
-            (false, true) | (true, false) => self.number_anew(enabled),
-        }
-    }
-
-    // Has other numbers count from now on. The message under way takes the next one of its stream.
-    fn number_anew(&mut self, is_interleaved: bool)
-        requires { CanGoOn self.old.streams self.old.under_way }
-        ensures whole { queue_of self.new
-            ≡ renumbered_under_way self.old.under_way
-            (record (queue_of self.old) { is_interleaved = is_interleaved }) }
-        ensures can { CanGoOn self.new.streams self.new.under_way }
-    {
-        self.is_interleaved = is_interleaved;
-        let Some(under_way) = self.under_way else {
-            return;
-        };
-        let place = self.place_of(under_way);
-        let is_unordered = self.is_front_unordered(place);
-        let (ssn, mid) = self.streams.at(place).next_numbers(is_unordered);
-        self.streams
-            .count_begun(place, is_interleaved, is_unordered);
-        self.under_way = Some(UnderWay {
-            stream_id: under_way.stream_id,
-            ssn,
-            mid,
-            next_fsn: under_way.next_fsn,
-            sent: under_way.sent,
-        });
-    }
-
-    // Is the oldest message of the stream too old to be started?
+    // Is the oldest message of the stream too old to be started? One that was started goes on.
     fn is_front_expired(&self, place: usize, now: SocketTime) -> bool
         requires { place < length self.now.streams }
         ensures { (message : Waiting)
             → front_of (stream_at self.now.streams place).messages ≡ Some message
-            → result ≡ is_expired now message }
+            → result ≡ is_too_old now message (stream_at self.now.streams place) }
     {
-        match self.streams.at(place).front() {
+        let stream = self.streams.at(place);
+        if stream.under_way().is_some() {
+            return false;
+        }
+        match stream.front() {
             None => false,
             Some(message) => message.is_expired(now),
         }
@@ -113,7 +78,7 @@ impl Backlog {
             (DropsAll now (queue_of self.old) (contents events.old) (queue_of self.new)
             (contents events.new)) }
         ensures err { OnErr result (DropsSome now (queue_of self.old) (queue_of self.new)) }
-        ensures front { (max : ℕ) → self.old.under_way ≡ None
+        ensures front { (max : ℕ) → self.old.held ≡ None
             → OnErr result
             (StopsTaking now max (queue_of self.old) (contents events.old) (queue_of self.new)
             (contents events.new)) }
@@ -136,7 +101,9 @@ impl Backlog {
         under_way: UnderWay,
         max: usize,
     ) -> Result<DataToSend, AllocError>
-        requires { HasUnsentBytes self.old.streams place under_way.sent }
+        requires rest { HasUnsentBytes self.old.streams place under_way.sent }
+        requires stream { (stream_at self.old.streams place).id ≡ under_way.stream_id.0 }
+        requires some { 0 < max }
         ensures ok { (message : Waiting)
             → front_of (stream_at self.old.streams place).messages ≡ Some message
             → IfOk result
@@ -183,70 +150,84 @@ impl Backlog {
         }
     }
 
-    /// Drops what is left of the message under way, if it is the one of this name and stream, and returns
-    /// whether it was.
+    /// Drops what is left of the stream's message under way, if it is the one of this name, and returns whether
+    /// it was.
     pub fn discard(
         &mut self,
         events: &mut Events,
         stream_id: StreamId,
         message_id: u64,
     ) -> Result<bool, AllocError>
-        requires { CanGoOn self.old.streams self.old.under_way }
+        requires { HasHeldStream self.old }
         ensures ok { IfOk result
             (λ is_dropped. DiscardsNamed (queue_of self.old) stream_id.0 message_id
             (contents events.old) is_dropped (queue_of self.new) (contents events.new)) }
-        ensures can { CanGoOn self.new.streams self.new.under_way }
+        ensures held { HasHeldStream self.new }
         ensures err { OnErr result (self.new ≡ self.old) }
         ensures front { OnErr result
             (StopsDiscarding (queue_of self.old) stream_id.0 message_id (contents events.old)
             (contents events.new)) }
     {
-        let under_way = match self.under_way {
-            Some(under_way) => under_way,
-            None => return Ok(false),
-        };
-        if under_way.stream_id.0 != stream_id.0 {
+        let Ok(place) = self.streams.find(stream_id) else {
             return Ok(false);
-        }
-        let place = self.place_of(under_way);
+        };
+        let Some(under_way) = self.streams.at(place).under_way() else {
+            return Ok(false);
+        };
         if !self.is_front_named(place, message_id) {
             return Ok(false);
         }
         self.drop_front(events, place, under_way.sent)?;
-        self.under_way = None;
+        self.release(stream_id);
         Ok(true)
     }
 
-    /// Takes the next fragment of the message under way, of at most `max` bytes.
+    // How far the oldest message of the stream has come: it is under way, or is begun.
+    #[inline(always)]
+    fn next_progress(&self, place: usize) -> UnderWay
+        requires { place < length self.now.streams }
+        ensures come { (message : Waiting)
+            → front_of (stream_at self.now.streams place).messages ≡ Some message
+            → result ≡ next_progress message (stream_at self.now.streams place) }
+        ensures bytes { HaveBytes (stream_at self.now.streams place) }
+        ensures can { CanGoOn (stream_at self.now.streams place) }
+    {
+        match self.streams.at(place).under_way() {
+            Some(under_way) => under_way,
+            None => self.begun(place),
+        }
+    }
+
+    /// Takes the next fragment of the message under way of the stream that is held, of at most `max` bytes.
     #[inline(always)]
     pub fn go_on(
         &mut self,
         events: &mut Events,
-        under_way: UnderWay,
+        held: StreamId,
         max: usize,
     ) -> Result<Option<DataToSend>, AllocError>
-        requires goes_on { self.old.under_way ≡ Some under_way }
-        requires can { IsUnderWay self.old.streams under_way }
+        requires goes_on { self.old.held ≡ Some held }
+        requires held { HasHeldStream self.old }
         requires some { 0 < max }
         ensures ok { (now : ℕ)
             → IfOk result
             (λ next. TakesNextFragment now max (queue_of self.old) (contents events.old) next
             (queue_of self.new) (contents events.new)) }
         ensures size { IfOk result (λ next. IfSome next (HasSize max)) }
-        ensures can { CanGoOn self.new.streams self.new.under_way }
+        ensures held { HasHeldStream self.new }
         ensures err { OnErr result (self.new ≡ self.old) }
         ensures front { (now : ℕ)
             → OnErr result
             (StopsTaking now max (queue_of self.old) (contents events.old) (queue_of self.new)
             (contents events.new)) }
     {
-        let place = self.place_of(under_way);
+        let place = self.place_of(held);
+        let under_way = self.next_progress(place);
         let data = self.produce(events, place, under_way, max)?;
         Ok(Some(data))
     }
 
-    /// Takes the first fragment, of at most `max` bytes, of the message that is next in turn; none if no
-    /// message can be started.
+    /// Takes the next fragment, of at most `max` bytes, of the stream whose turn it is; none if none has one.
     #[inline(always)]
     pub fn begin_next(
         &mut self,
@@ -254,13 +235,14 @@ impl Backlog {
         now: SocketTime,
         max: usize,
     ) -> Result<Option<DataToSend>, AllocError>
-        requires idle { self.old.under_way ≡ None }
+        requires idle { self.old.held ≡ None }
+        requires held { HasHeldStream self.old }
         requires some { 0 < max }
         ensures ok { IfOk result
             (λ next. TakesNextFragment now max (queue_of self.old) (contents events.old) next
             (queue_of self.new) (contents events.new)) }
         ensures size { IfOk result (λ next. IfSome next (HasSize max)) }
-        ensures can { CanGoOn self.new.streams self.new.under_way }
+        ensures held { HasHeldStream self.new }
         ensures err { OnErr result (DropsSome now (queue_of self.old) (queue_of self.new)) }
         ensures front { OnErr result
             (StopsTaking now max (queue_of self.old) (contents events.old) (queue_of self.new)
@@ -269,34 +251,9 @@ impl Backlog {
         let Some(place) = self.next_unexpired(events, now)? else {
             return Ok(None);
         };
-        let under_way = self.begun(place);
+        let under_way = self.next_progress(place);
         let data = self.produce(events, place, under_way, max)?;
         Ok(Some(data))
-    }
-
-    // The number of the turn that is taken now.
-    #[inline(always)]
-    fn next_turn(&self) -> u64
-        ensures { result ≡ next_turn (queue_of self.now) }
-    {
-        if self.takes_turns {
-            self.turns_taken.wrapping_add(1)
-        } else {
-            self.turns_taken
-        }
-    }
-
-    // Counts a message of the stream that is begun, and the stream's turn.
-    #[inline(always)]
-    fn count(&mut self, place: usize, is_unordered: bool)
-        requires { place < length self.old.streams }
-        ensures { queue_of self.new ≡ begun_message_counted place is_unordered (queue_of self.old) }
-    {
-        let turn = self.next_turn();
-        self.streams
-            .count_begun(place, self.is_interleaved, is_unordered);
-        self.streams.serve(place, turn);
-        self.turns_taken = turn;
     }
 
     // Takes a fragment of that many bytes, which isn't the last.
@@ -308,7 +265,9 @@ impl Backlog {
         under_way: UnderWay,
         size: usize,
     ) -> Result<DataToSend, AllocError>
-        requires { HasMore self.old.streams place (under_way.sent + size) }
+        requires rest { HasMore self.old.streams place (under_way.sent + size) }
+        requires stream { (stream_at self.old.streams place).id ≡ under_way.stream_id.0 }
+        requires some { 0 < size }
         ensures ok { (message : Waiting)
             → front_of (stream_at self.old.streams place).messages ≡ Some message
             → IfOk result (λ part. part ≡ fragment under_way message size) }
@@ -327,18 +286,20 @@ impl Backlog {
         let message = self.streams.at(place).front().unwrap();
         let data = message.part(self.alloc, under_way, size)?;
         let is_unordered = message.is_unordered();
+        let is_abandonable = message.may_be_abandoned();
         self.tell_low(events, place, size)?;
         self.reduce(place, size);
-        if under_way.sent == 0 {
-            self.count(place, is_unordered);
-        }
-        self.under_way = Some(UnderWay {
+        self.number(place, under_way.sent == 0, is_unordered);
+        self.count_turn(place, under_way.sent == 0, size);
+        let further = UnderWay {
             stream_id: under_way.stream_id,
             ssn: under_way.ssn,
             mid: under_way.mid,
             next_fsn: under_way.next_fsn.wrapping_add(1),
             sent: under_way.sent + size,
-        });
+        };
+        self.streams.go_on(place, further);
+        self.held = self.held_by(under_way.stream_id, is_abandonable);
         Ok(data)
     }
 
@@ -378,10 +339,9 @@ impl Backlog {
         self.tell_low(events, place, left)?;
         message.tell_fully_sent(events)?;
         self.reduce(place, left);
-        if under_way.sent == 0 {
-            self.count(place, is_unordered);
-        }
-        self.under_way = None;
+        self.number(place, under_way.sent == 0, is_unordered);
+        self.count_turn(place, under_way.sent == 0, left);
+        self.release(under_way.stream_id);
         let message = self.streams.pop(place).unwrap();
         Ok(message.last_part(under_way, rest))
     }

@@ -8,15 +8,14 @@ use dcsctp_api::{Events, StreamId};
 use std::alloc::AllocError;
 
 impl Backlog {
-    ghost use Rattle.dcsctp_send_queue.specs.Backlog.{queue_of};
-    ghost use Rattle.dcsctp_api.specs.spec.queues.SendQueue.{CanGoOn, stream_changed};
+    ghost use Rattle.dcsctp_send_queue.specs.Backlog.{queue_of, HasHeldStream};
+    ghost use Rattle.dcsctp_api.specs.spec.queues.SendQueue.{stream_changed};
     ghost use Rattle.std.specs.Prelude.{◌≡◌, ◌==◌, ◌+◌, ◌-◌, ◌<◌, ◌++◌, length, take, Ok, Err, OnOk, OnErr, IfOk, not};
     ghost use Rattle.dcsctp_api.specs.types.queues.SendStreams.{handed_out, stream_at, IsAscending};
     ghost use Rattle.dcsctp_api.specs.types.Ids.{stream_numbers};
     ghost use Rattle.dcsctp_api.specs.spec.queues.Transfer.{is_none_ready};
     ghost use Rattle.dcsctp_send_queue.specs.Telling.{contents, AddsFront};
-    ghost use Rattle.dcsctp_send_queue.specs.Ranking.{count_pausing};
-    ghost use Rattle.dcsctp_api.specs.spec.queues.OwnResets.{count_under_way, ready_streams, queue_with_prepared, prepare_events, handing_out};
+    ghost use Rattle.dcsctp_api.specs.spec.queues.OwnResets.{ready_streams, queue_with_prepared, prepare_events, handing_out};
     ghost use Rattle.dcsctp_send_queue.specs.Leaving.{after_pause, pause_events};
     ghost use Rattle.dcsctp_api.specs.spec.queues.Sending.{begun_under_way};
     ghost use Rattle.dcsctp_send_queue.specs.Resets.{IsUsedAtMost};
@@ -32,7 +31,7 @@ impl Backlog {
             (AddsFront (contents events.old) (pause_events place (queue_of self.old))
             (contents events.new)) }
     {
-        let kept = self.count_under_way(self.streams.at(place).id());
+        let kept = self.streams.at(place).count_under_way();
         let size = self.streams.at(place).size_from(kept);
         self.tell_low(events, place, size)?;
         self.streams.at(place).tell_dropped(events, kept)?;
@@ -48,8 +47,7 @@ impl Backlog {
         ensures told { OnOk result
             (contents events.new
             ≡ contents events.old ++ prepare_events stream_id.0 (queue_of self.old)) }
-        ensures can { CanGoOn self.old.streams self.old.under_way
-            → CanGoOn self.new.streams self.new.under_way }
+        ensures held { HasHeldStream self.old → HasHeldStream self.new }
         ensures was_ascending { IsAscending self.old.streams }
         ensures err { OnErr result
             (IsUsedAtMost stream_id.0 (queue_of self.old) (queue_of self.new)) }
@@ -72,13 +70,8 @@ impl Backlog {
         ensures ascending { IsAscending self.now.streams }
     {
         let mut ids = Vec::new(self.alloc);
-        let mut place = 0;
-        'asking: while place < self.streams.count_pausing() && ids.len() < max {
-            let id = self.streams.pausing_at(place);
-            if self.count_under_way(id) == 0 {
-                ids.push(id)?;
-            }
-            place += 1;
+        for place in 0..self.streams.count_ready().min(max) {
+            ids.push(self.streams.ready_at(place))?;
         }
         Ok(ids)
     }
@@ -90,8 +83,7 @@ impl Backlog {
               streams = handing_out (stream_numbers ids.now)
                   self.old.streams;
             } }
-        ensures can { CanGoOn self.old.streams self.old.under_way
-            → CanGoOn self.new.streams self.new.under_way }
+        ensures held { HasHeldStream self.old → HasHeldStream self.new }
     {
         for id in ids {
             self.hand_out_one(*id);
@@ -116,21 +108,6 @@ impl Backlog {
     pub fn has_ready(&self) -> bool
         ensures { result ≡ not (is_none_ready (ready_streams (queue_of self.now))) }
     {
-        self.count_not_ready() < self.streams.count_pausing()
-    }
-
-    // How many of the streams that are to be reset can't be handed out yet: none, or that of the message
-    // under way.
-    fn count_not_ready(&self) -> usize
-        ensures { length (ready_streams (queue_of self.now)) + result
-            ≡ count_pausing self.now.streams }
-    {
-        let Some(under_way) = self.under_way else {
-            return 0;
-        };
-        match self.streams.find(under_way.stream_id) {
-            Ok(place) => self.streams.at(place).count_pausing(),
-            Err(_) => 0,
-        }
+        0 < self.streams.count_ready()
     }
 }

@@ -26,21 +26,22 @@ fn progress_again(part: &HandoverStreamMessage) -> UnderWay
 impl Backlog {
     ghost use Rattle.std.specs.Prelude.{◌≡◌, ◌+◌, ◌-◌, ◌^◌, ◌<◌, true, is_some, [], ◌∷◌, min, map, length, OnOk, OnErr};
     ghost use Rattle.std.specs.List.{list_all};
-    ghost use Rattle.dcsctp_send_queue.specs.Backlog.{queue_of};
+    ghost use Rattle.dcsctp_send_queue.specs.Backlog.{queue_of, HasHeldStream};
     ghost use Rattle.dcsctp_api.specs.types.SnapshotItems.{queued_part};
     ghost use Rattle.dcsctp_api.specs.types.Snapshot.{is_valid_queued};
     ghost use Rattle.dcsctp_api.specs.spec.queues.OwnResets.{with_used};
-    ghost use Rattle.dcsctp_api.specs.spec.queues.SendQueue.{CanGoOn, stream_changed, queue_stream};
-    ghost use Rattle.dcsctp_api.specs.types.queues.SendStreams.{front_of};
-    ghost use Rattle.dcsctp_api.specs.spec.queues.QueuedParts.{queue_emptied, streams_restored, is_part_continued, with_rest, message_restored, messages_restored};
+    ghost use Rattle.dcsctp_api.specs.spec.queues.SendQueue.{stream_changed, queue_stream, IsUnderWay};
+    ghost use Rattle.dcsctp_api.specs.types.queues.SendStreams.{Waiting, front_of};
+    ghost use Rattle.dcsctp_api.specs.spec.queues.Sending.{may_be_abandoned};
+    ghost use Rattle.dcsctp_api.specs.spec.queues.QueuedParts.{queue_emptied, streams_restored, is_part_continued, with_rest, held_again, queue_continued, message_restored, messages_restored};
 
     /// Drops all messages. The streams keep their priorities and their thresholds.
     pub fn empty(&mut self)
         ensures value { queue_of self.new ≡ queue_emptied (queue_of self.old) }
-        ensures can { CanGoOn self.new.streams self.new.under_way }
+        ensures held { HasHeldStream self.new }
     {
         self.streams.empty_all();
-        self.under_way = None;
+        self.held = None;
         self.total_amount = 0;
     }
 
@@ -48,8 +49,7 @@ impl Backlog {
     fn restore_stream(&mut self, named: &HandoverOutgoingStream) -> Result<(), AllocError>
         ensures ok { OnOk result
             (queue_of self.new ≡ streams_restored (named.now ∷ []) (queue_of self.old)) }
-        ensures can { CanGoOn self.old.streams self.old.under_way
-            → CanGoOn self.new.streams self.new.under_way }
+        ensures held { HasHeldStream self.old → HasHeldStream self.new }
     {
         let place = self.use_stream(StreamId(named.id))?;
         self.streams.restore(place, named);
@@ -60,8 +60,7 @@ impl Backlog {
     pub fn restore_streams(&mut self, list: &[HandoverOutgoingStream]) -> Result<(), AllocError>
         ensures ok { OnOk result
             (queue_of self.new ≡ streams_restored list.now (queue_of self.old)) }
-        ensures can { CanGoOn self.old.streams self.old.under_way
-            → CanGoOn self.new.streams self.new.under_way }
+        ensures held { HasHeldStream self.old → HasHeldStream self.new }
     {
         for named in list {
             self.restore_stream(named)?;
@@ -85,7 +84,7 @@ impl Backlog {
         ensures { result ≡ is_part_continued (queued_part part.now) (queue_of self.now) }
     {
         part.remaining_offset > 0
-            && self.under_way.is_none()
+            && (self.is_interleaved || self.held.is_none())
             && !self.has_message(StreamId(part.stream_id))
     }
 
@@ -103,8 +102,7 @@ impl Backlog {
                   (with_used stream_id.0 (queue_of self.old)).streams;
               total_amount = min (self.old.total_amount + rest) (2 ^ 64 - 1);
             }) }
-        ensures can { CanGoOn self.old.streams self.old.under_way
-            → CanGoOn self.new.streams self.new.under_way }
+        ensures held { HasHeldStream self.old → HasHeldStream self.new }
     {
         let place = self.use_stream(stream_id)?;
         self.streams.push_rest(place, message, rest)?;
@@ -121,20 +119,50 @@ impl Backlog {
         requires { part.now.remaining_offset < length part.now.payload.items }
         ensures ok { OnOk result
             (queue_of self.new ≡ message_restored now (queued_part part.now) (queue_of self.old)) }
-        ensures can { CanGoOn self.old.streams self.old.under_way
-            → CanGoOn self.new.streams self.new.under_way }
+        ensures held { HasHeldStream self.old → HasHeldStream self.new }
     {
         let stream_id = StreamId(part.stream_id);
         let goes_on = self.goes_on(part);
         let message = QueuedMessage::from_handover(self.alloc, now, part)?;
+        let is_abandonable = message.may_be_abandoned();
         if goes_on {
             let rest = part.payload.len() - part.remaining_offset;
             self.put_rest(stream_id, message, rest)?;
-            self.under_way = Some(progress_again(part));
+            self.go_on_again(stream_id, is_abandonable, progress_again(part));
         } else {
             self.put_rest(stream_id, message, part.payload.len())?;
         }
         Ok(())
+    }
+
+    // The oldest message of the stream, which is the only one, continues where it was.
+    fn go_on_again(&mut self, stream_id: StreamId, is_abandonable: bool, under_way: UnderWay)
+        requires { IsUnderWay stream_id.0 (queue_stream (queue_of self.old) stream_id.0).messages
+            under_way }
+        ensures whole { (message : Waiting) → is_abandonable ≡ may_be_abandoned message → queue_of
+            self.new ≡ queue_continued stream_id.0 message under_way (queue_of self.old) }
+        ensures held { (message : Waiting) → is_abandonable ≡ may_be_abandoned message
+            → HasHeldStream self.old → HasHeldStream self.new }
+    {
+        match self.streams.find(stream_id) {
+            Ok(place) => {
+                self.streams.go_on(place, under_way);
+                self.hold_again(stream_id, is_abandonable);
+            }
+            Err(_) => {}
+        }
+    }
+
+    // The stream is held, if its message is kept whole and no other stream is held.
+    fn hold_again(&mut self, stream_id: StreamId, is_abandonable: bool)
+        ensures { (message : Waiting) → is_abandonable ≡ may_be_abandoned message → queue_of
+            self.new ≡ record (queue_of self.old) {
+              held = held_again stream_id message (queue_of self.old) self.old.held;
+            } }
+    {
+        if self.held.is_none() {
+            self.held = self.held_by(stream_id, is_abandonable);
+        }
     }
 
     /// Adds the messages of the snapshot after the others of their streams. `Err`: an allocation failed.
@@ -147,8 +175,7 @@ impl Backlog {
         ensures ok { OnOk result
             (queue_of self.new
             ≡ messages_restored now (map queued_part parts.now) (queue_of self.old)) }
-        ensures can { CanGoOn self.old.streams self.old.under_way
-            → CanGoOn self.new.streams self.new.under_way }
+        ensures held { HasHeldStream self.old → HasHeldStream self.new }
     {
         for part in parts {
             self.restore_message(now, part)?;

@@ -4,7 +4,7 @@ use super::OutgoingStream;
 
 impl OutgoingStream {
     ghost use Rattle.std.specs.Prelude.{◌≡◌};
-    ghost use Rattle.dcsctp_api.specs.types.queues.SendStreams.{next_numbers, stream_counted, served_stream};
+    ghost use Rattle.dcsctp_api.specs.types.queues.SendStreams.{next_numbers, stream_counted, served_stream, fills_turn, stream_with_turn_bytes};
 
     /// The numbers of an ordered or unordered message that is started next: SSN and MID. One of the two is
     /// sent, by whether messages are interleaved.
@@ -31,7 +31,20 @@ impl OutgoingStream {
         }
     }
 
-    /// The turn in which one of its messages was begun last.
+    /// Sends that many bytes of its turn, which has `turn_size` bytes. Is its turn over? What it sends beyond
+    /// that counts for the next.
+    #[inline(always)]
+    pub fn use_turn(&mut self, turn_size: usize, size: usize) -> bool
+        ensures left { self.new ≡ stream_with_turn_bytes turn_size size self.old }
+        ensures over { result ≡ fills_turn turn_size size self.old }
+    {
+        let bytes = self.turn_bytes.saturating_add(size);
+        let is_over = turn_size <= bytes;
+        self.turn_bytes = if is_over { bytes - turn_size } else { bytes };
+        is_over
+    }
+
+    /// The turn that it had last.
     pub fn last_turn(&self) -> u64
         ensures { result ≡ self.now.last_turn }
     {

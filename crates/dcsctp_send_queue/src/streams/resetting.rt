@@ -5,26 +5,26 @@ use crate::turns::move_turn;
 use dcsctp_api::StreamId;
 
 impl Streams {
-    ghost use Rattle.std.specs.Prelude.{◌≡◌, ◌<◌, [], length, map, slice_index_or, slice_set, IfSome, IfNone};
+    ghost use Rattle.std.specs.Prelude.{◌≡◌, ◌<◌, ◌≤◌, [], length, map, slice_index_or, slice_set, IfSome, IfNone};
     ghost use Rattle.dcsctp_api.specs.types.queues.SendStreams.{paused_stream, handed_out, renumbered_stream, committed_stream, rolled_back, stream_at, IsAscending};
     ghost use Rattle.dcsctp_api.specs.spec.queues.QueuedParts.{emptied_stream};
-    ghost use Rattle.dcsctp_send_queue.specs.Ranking.{count_pausing};
-    ghost use Rattle.dcsctp_send_queue.specs.Pausing.{pausing_ids, handed_out_ids, IsHandedOutStream};
+    ghost use Rattle.dcsctp_api.specs.spec.queues.OwnResets.{count_under_way};
+    ghost use Rattle.dcsctp_send_queue.specs.Pausing.{ready_ids, handed_out_ids, IsHandedOutStream};
 
-    /// How many streams are to be reset, and weren't handed out yet.
-    pub fn count_pausing(&self) -> usize
-        ensures count { result ≡ count_pausing self.now }
+    /// How many streams can be handed out to be reset.
+    pub fn count_ready(&self) -> usize
+        ensures count { result ≡ length (ready_ids self.now) }
         ensures ascending { IsAscending self.now }
     {
-        self.paused.pausing.len()
+        self.paused.ready.len()
     }
 
     /// The number of such a stream, by its place among them. They ascend.
-    pub fn pausing_at(&self, place: usize) -> StreamId
-        requires { place < count_pausing self.now }
-        ensures { result ≡ slice_index_or (pausing_ids self.now) place result }
+    pub fn ready_at(&self, place: usize) -> StreamId
+        requires { place < length (ready_ids self.now) }
+        ensures { result ≡ slice_index_or (ready_ids self.now) place result }
     {
-        self.paused.pausing[place]
+        self.paused.ready[place]
     }
 
     // The place of a stream that is handed out; none if none is.
@@ -41,17 +41,18 @@ impl Streams {
 
     /// Keeps only that many of the stream's messages, the oldest, and pauses the stream.
     pub fn pause(&mut self, place: usize, kept: usize)
-        requires { place < length self.old }
+        requires place { place < length self.old }
+        requires kept { count_under_way (stream_at self.old place) ≤ kept }
         ensures { self.new ≡ slice_set self.old place (paused_stream kept
             (stream_at self.old place)) }
     {
         let stream = self.items.at_mut(place);
         let id = stream.id();
         let before = stream.turn();
-        let pause_before = stream.pause_state();
+        let pause_before = stream.pause_in_order();
         stream.pause(kept);
         let after = stream.turn();
-        let pause_after = stream.pause_state();
+        let pause_after = stream.pause_in_order();
         move_turn(&mut self.turns, before, after);
         self.paused.move_stream(id, pause_before, pause_after);
     }
@@ -64,10 +65,10 @@ impl Streams {
         let stream = self.items.at_mut(place);
         let id = stream.id();
         let before = stream.turn();
-        let pause_before = stream.pause_state();
+        let pause_before = stream.pause_in_order();
         stream.hand_out();
         let after = stream.turn();
-        let pause_after = stream.pause_state();
+        let pause_after = stream.pause_in_order();
         move_turn(&mut self.turns, before, after);
         self.paused.move_stream(id, pause_before, pause_after);
     }
@@ -81,10 +82,10 @@ impl Streams {
         let stream = self.items.at_mut(place);
         let id = stream.id();
         let before = stream.turn();
-        let pause_before = stream.pause_state();
+        let pause_before = stream.pause_in_order();
         stream.begin_anew();
         let after = stream.turn();
-        let pause_after = stream.pause_state();
+        let pause_after = stream.pause_in_order();
         move_turn(&mut self.turns, before, after);
         self.paused.move_stream(id, pause_before, pause_after);
     }
@@ -98,10 +99,10 @@ impl Streams {
         let stream = self.items.at_mut(place);
         let id = stream.id();
         let before = stream.turn();
-        let pause_before = stream.pause_state();
+        let pause_before = stream.pause_in_order();
         stream.commit();
         let after = stream.turn();
-        let pause_after = stream.pause_state();
+        let pause_after = stream.pause_in_order();
         move_turn(&mut self.turns, before, after);
         self.paused.move_stream(id, pause_before, pause_after);
     }
@@ -114,10 +115,10 @@ impl Streams {
         let stream = self.items.at_mut(place);
         let id = stream.id();
         let before = stream.turn();
-        let pause_before = stream.pause_state();
+        let pause_before = stream.pause_in_order();
         stream.roll_back();
         let after = stream.turn();
-        let pause_after = stream.pause_state();
+        let pause_after = stream.pause_in_order();
         move_turn(&mut self.turns, before, after);
         self.paused.move_stream(id, pause_before, pause_after);
     }
@@ -130,10 +131,10 @@ impl Streams {
         let stream = self.items.at_mut(place);
         let id = stream.id();
         let before = stream.turn();
-        let pause_before = stream.pause_state();
+        let pause_before = stream.pause_in_order();
         stream.empty();
         let after = stream.turn();
-        let pause_after = stream.pause_state();
+        let pause_after = stream.pause_in_order();
         move_turn(&mut self.turns, before, after);
         self.paused.move_stream(id, pause_before, pause_after);
     }

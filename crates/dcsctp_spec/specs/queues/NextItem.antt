@@ -1,6 +1,6 @@
 -- Which item is sent again next, and when no new one can be sent.
 use Rattle.std.specs.Prelude.{◌≡◌, ◌⊎◌, ◌+◌, ◌^◌, ◌<◌, ◌≤◌, ◌&&◌, ◌||◌, nat_lt, nat_le, ℕ, Bool, true, false, Option, None, Some, List, [], length, slice_get}
-use Rattle.dcsctp_types.specs.declared.sending.UnderWay.{UnderWay}
+use Rattle.dcsctp_types.specs.declared.ids.StreamId.{StreamId}
 use Rattle.dcsctp_spec.specs.queues.Items.{Item, item_size, marked_items}
 use Rattle.dcsctp_spec.specs.queues.Outstanding.{OutstandingState, header}
 use Rattle.dcsctp_types.specs.queues.Progress.{is_marked}
@@ -52,27 +52,27 @@ pub record FirstStays (now : ℕ) (queue : RetransmissionState) : Type 0 where
 
 -- ---- a send queue that gives nothing
 
--- No message is under way, and none can be started.
+-- No stream is held, and none has a turn.
 pub record HasNone (waiting : SendQueueState) : Type 0 where
-  pub idle : waiting.under_way ≡ None
+  pub idle : waiting.held ≡ None
   pub none_left : turns_of waiting.streams ≡ []
 
--- The stream of the message under way has a message.
-pub record HasMessageUnderWay (streams : List Stream) (under_way : UnderWay) : Type 0 where
+-- The stream that is held has a message.
+pub record HasHeldMessage (streams : List Stream) (held : StreamId) : Type 0 where
   pub place : ℕ
   pub within : place < length streams
-  pub is : (stream_at streams place).id ≡ under_way.stream_id.0
+  pub is : (stream_at streams place).id ≡ held.0
   pub message : Waiting
   pub front : front_of (stream_at streams place).messages ≡ Some message
 
--- No stream has the message under way. No call leads there.
-abbrev pub IsStuck : Option UnderWay → List Stream → Type 0
+-- The stream that is held has no message. No call leads there.
+abbrev pub IsStuck : Option StreamId → List Stream → Type 0
 IsStuck None streams = ⊥
-IsStuck (Some under_way) streams = HasMessageUnderWay streams under_way → ⊥
+IsStuck (Some held) streams = HasHeldMessage streams held → ⊥
 
 -- None can be taken from it.
 abbrev pub GivesNone : SendQueueState → Type 0
-GivesNone waiting = HasNone waiting ⊎ IsStuck waiting.under_way waiting.streams
+GivesNone waiting = HasNone waiting ⊎ IsStuck waiting.held waiting.streams
 
 -- ---- why nothing more goes into a packet
 

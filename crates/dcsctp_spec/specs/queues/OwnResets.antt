@@ -3,7 +3,6 @@
 use Rattle.std.specs.Prelude.{ℕ, ◌-◌, ◌^◌, ◌==◌, min, Bool, true, false, not, ◌&&◌, Option, None, Some, is_some, List, [], ◌∷◌, ◌++◌, take, drop, map, filter, if◌then◌else◌}
 use Rattle.std.specs.List.{list_any}
 use Rattle.dcsctp_spec.specs.endpoint.Event.{Event}
-use Rattle.dcsctp_types.specs.declared.sending.UnderWay.{UnderWay}
 use Rattle.dcsctp_types.specs.declared.sending.Pause.{Pause}
 use Rattle.dcsctp_types.specs.declared.sending.Pause.TheVariants.{Open, Pausing, HandedOut}
 use Rattle.dcsctp_types.specs.queues.SendStreams.{Waiting, Stream, payload_size, is_pausing, paused_stream, handed_out, committed_stream, rolled_back}
@@ -17,18 +16,13 @@ is_open_pause Open = true
 is_open_pause Pausing = false
 is_open_pause HandedOut = false
 
--- is the message under way one of this stream?
-abbrev pub is_under_way : ℕ → Option UnderWay → Bool
-is_under_way id None = false
-is_under_way id (Some message) = message.stream_id.0 == id
-
--- how many messages of the stream are under way
-abbrev pub count_under_way : ℕ → Option UnderWay → ℕ
-count_under_way id under_way = if is_under_way id under_way then 1 else 0
+-- how many messages of the stream are under way: none or one
+abbrev pub count_under_way : Stream → ℕ
+count_under_way stream = if is_some stream.under_way then 1 else 0
 
 -- what leaves a stream that is to be reset
 abbrev pub dropped_of : ℕ → SendQueueState → List Waiting
-dropped_of id queue = drop (count_under_way id queue.under_way) (queue_stream queue id).messages
+dropped_of id queue = drop (count_under_way (queue_stream queue id)) (queue_stream queue id).messages
 
 abbrev pub dropped_size : ℕ → SendQueueState → ℕ
 dropped_size id queue = min (payload_size (dropped_of id queue)) (2 ^ 64 - 1)
@@ -45,7 +39,7 @@ with_used id queue = record queue { streams = used_streams queue id }
 abbrev pub prepared_open : ℕ → SendQueueState → SendQueueState
 prepared_open id queue =
     record queue {
-      streams = stream_changed id (prepared_stream (dropped_size id queue) (count_under_way id queue.under_way)) queue.streams;
+      streams = stream_changed id (prepared_stream (dropped_size id queue) (count_under_way (queue_stream queue id))) queue.streams;
       total_amount = queue.total_amount - dropped_size id queue;
     }
 
@@ -76,13 +70,13 @@ prepare_all_events (id ∷ ids) queue = prepare_events id queue ++ prepare_all_e
 
 -- ---- streams that are ready
 
--- can the stream be handed out to be reset?
-abbrev pub is_ready : Option UnderWay → Stream → Bool
-is_ready under_way stream = if is_pausing stream.pause then (if is_under_way stream.id under_way then false else true) else false
+-- Can the stream be handed out to be reset? Messages under way on other streams don't matter.
+abbrev pub is_ready : Stream → Bool
+is_ready stream = is_pausing stream.pause && not (is_some stream.under_way)
 
 -- the streams that can be handed out, ascending
 abbrev pub ready_streams : SendQueueState → List ℕ
-ready_streams queue = map (λ stream. stream.id) (filter (is_ready queue.under_way) queue.streams)
+ready_streams queue = map (λ stream. stream.id) (filter is_ready queue.streams)
 
 -- does a message wait without a limit of time?
 abbrev pub is_lasting : Waiting → Bool

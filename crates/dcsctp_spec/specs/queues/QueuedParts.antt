@@ -1,7 +1,8 @@
 -- What a snapshot has of what waits to be sent, and what is restored from it.
-use Rattle.std.specs.Prelude.{ℕ, ◌==◌, ◌+◌, ◌-◌, ◌^◌, ◌&&◌, min, nat_lt, not, Bool, if◌then◌else◌, Option, None, Some, is_some, List, [], ◌∷◌, ◌++◌, length, map}
+use Rattle.std.specs.Prelude.{ℕ, ◌==◌, ◌+◌, ◌-◌, ◌^◌, ◌&&◌, ◌||◌, min, nat_lt, not, Bool, if◌then◌else◌, Option, None, Some, is_some, List, [], ◌∷◌, ◌++◌, length, map}
 use Rattle.std.specs.List.{flat_map}
 use Rattle.std.specs.Option.{option_map, unwrap_or}
+use Rattle.dcsctp_types.specs.declared.ids.StreamId.{StreamId}
 use Rattle.dcsctp_types.specs.declared.sending.UnderWay.{UnderWay}
 use Rattle.dcsctp_types.specs.declared.snapshot.HandoverOutgoingStream.{HandoverOutgoingStream}
 use Rattle.dcsctp_types.specs.Lifetimes.{millis_ahead, moment_ahead}
@@ -9,7 +10,8 @@ use Rattle.dcsctp_types.specs.Snapshot.{SendPart}
 use Rattle.dcsctp_types.specs.SnapshotItems.{QueuedPart}
 use Rattle.dcsctp_spec.specs.queues.OwnResets.{with_used}
 use Rattle.dcsctp_spec.specs.queues.SendQueue.{SendQueueState, stream_changed, queue_stream}
-use Rattle.dcsctp_types.specs.queues.SendStreams.{Waiting, Stream, front_of, unused_stream}
+use Rattle.dcsctp_spec.specs.queues.Sending.{stream_held_after}
+use Rattle.dcsctp_types.specs.queues.SendStreams.{Waiting, Stream, front_of, unused_stream, stream_with_progress}
 
 -- ---- numbers that mean none
 
@@ -50,13 +52,13 @@ begun_message under_way part =
     record part { remaining_offset = under_way.sent; mid = Some under_way.mid; ssn = Some under_way.ssn; fsn = under_way.next_fsn }
 
 -- the messages of a stream, of which the first may be under way
-abbrev pub with_progress : Option UnderWay → ℕ → List QueuedPart → List QueuedPart
-with_progress None id parts = parts
-with_progress (Some under_way) id [] = []
-with_progress (Some under_way) id (part ∷ parts) = if under_way.stream_id.0 == id then begun_message under_way part ∷ parts else part ∷ parts
+abbrev pub with_progress : Option UnderWay → List QueuedPart → List QueuedPart
+with_progress None parts = parts
+with_progress (Some under_way) [] = []
+with_progress (Some under_way) (part ∷ parts) = begun_message under_way part ∷ parts
 
-abbrev pub messages_given : ℕ → Option UnderWay → Stream → List QueuedPart
-messages_given now under_way stream = with_progress under_way stream.id (map (whole_message now stream.id) stream.messages)
+abbrev pub messages_given : ℕ → Stream → List QueuedPart
+messages_given now stream = with_progress stream.under_way (map (whole_message now stream.id) stream.messages)
 
 abbrev pub stream_given : Stream → HandoverOutgoingStream
 stream_given stream =
@@ -74,7 +76,7 @@ part_with_queue now with_data queue tx =
     record tx {
       next_outgoing_message_id = queue.next_message_id;
       streams = map stream_given queue.streams;
-      queued_messages = if with_data then flat_map (messages_given now queue.under_way) queue.streams else [];
+      queued_messages = if with_data then flat_map (messages_given now) queue.streams else [];
     }
 
 -- ---- what is restored
@@ -85,7 +87,7 @@ emptied_stream stream = unused_stream stream.id stream.priority stream.threshold
 
 -- Nothing waits, and each stream keeps its priority and its threshold.
 abbrev pub queue_emptied : SendQueueState → SendQueueState
-queue_emptied queue = record queue { streams = map emptied_stream queue.streams; under_way = None; total_amount = 0 }
+queue_emptied queue = record queue { streams = map emptied_stream queue.streams; held = None; total_amount = 0 }
 
 -- a stream with the numbers and the priority of the snapshot
 abbrev pub stream_restored : HandoverOutgoingStream → Stream → Stream
@@ -116,9 +118,10 @@ waiting_again now part =
       lifecycle = name_in_part part.lifecycle_id;
     }
 
--- Does it continue where it was? It does if a part of it was sent, it is the first of its stream, and no other is under way.
+-- Does it continue where it was? It does if a part of it was sent, it is the first of its stream, and no stream is held. Where
+-- messages are interleaved one of each stream does.
 abbrev pub is_part_continued : QueuedPart → SendQueueState → Bool
-is_part_continued part queue = nat_lt 0 part.remaining_offset && not (is_some queue.under_way) && not (is_some (front_of (queue_stream queue part.stream_id).messages))
+is_part_continued part queue = nat_lt 0 part.remaining_offset && (queue.is_interleaved || not (is_some queue.held)) && not (is_some (front_of (queue_stream queue part.stream_id).messages))
 
 -- how far it has come then
 abbrev pub progress_again : QueuedPart → UnderWay
@@ -143,11 +146,24 @@ with_message_rest now part rest queue =
       total_amount = min (queue.total_amount + rest) (2 ^ 64 - 1);
     }
 
+-- the stream that is held once a message of this one continues
+abbrev pub held_again : StreamId → Waiting → SendQueueState → Option StreamId → Option StreamId
+held_again id message queue None = stream_held_after id message queue
+held_again id message queue (Some held) = Some held
+
+-- This message, the oldest of the stream, continues. Its stream is held if it is kept whole, unless another stream is.
+abbrev pub queue_continued : ℕ → Waiting → UnderWay → SendQueueState → SendQueueState
+queue_continued id message under_way queue =
+    record queue {
+      streams = stream_changed id (stream_with_progress under_way) queue.streams;
+      held = held_again (record { 0 = id }) message queue queue.held;
+    }
+
 -- the queue with that message after the others of its stream
 abbrev pub message_restored : ℕ → QueuedPart → SendQueueState → SendQueueState
 message_restored now part queue =
     if is_part_continued part queue
-    then record (with_message_rest now part (length part.payload - part.remaining_offset) queue) { under_way = Some (progress_again part) }
+    then queue_continued part.stream_id (waiting_again now part) (progress_again part) (with_message_rest now part (length part.payload - part.remaining_offset) queue)
     else with_message_rest now part (length part.payload) queue
 
 abbrev pub messages_restored : ℕ → List QueuedPart → SendQueueState → SendQueueState

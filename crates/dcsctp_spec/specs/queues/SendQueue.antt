@@ -1,21 +1,24 @@
 -- The send queue: every message that waits to be sent (RFC 9260, section 6.9; RFC 8260, section 2.1). It outlasts an association.
-use Rattle.std.specs.Prelude.{◌≡◌, ℕ, ◌+◌, ◌-◌, ◌^◌, ◌%◌, ◌==◌, ◌<◌, min, nat_lt, not, ◌&&◌, ◌||◌, Bool, true, false, Option, None, Some, is_some, List, [], ◌∷◌, length, map, if◌then◌else◌}
+use Rattle.std.specs.Prelude.{◌≡◌, ℕ, ◌+◌, ◌-◌, ◌*◌, ◌/◌, ◌^◌, ◌%◌, ◌==◌, ◌<◌, min, nat_lt, not, ◌&&◌, ◌||◌, Bool, true, false, Option, None, Some, is_some, List, [], ◌∷◌, length, map, sum_by, if◌then◌else◌}
 use Rattle.std.specs.Option.{option_map}
 use Rattle.std.specs.List.{list_any, AllByRecursion}
 use Rattle.std.specs.Duration.{as_nanos, max_nanos}
 use Rattle.dcsctp_types.specs.declared.options.Options.{Options}
 use Rattle.dcsctp_types.specs.declared.message.SendOptions.{SendOptions}
 use Rattle.dcsctp_types.specs.Ids.{lifecycle_number}
+use Rattle.dcsctp_types.specs.Sizes.{common_header_size, i_data_header_size}
 use Rattle.dcsctp_types.specs.queues.Messages.{MessageContent}
+use Rattle.dcsctp_types.specs.declared.ids.StreamId.{StreamId}
 use Rattle.dcsctp_types.specs.declared.sending.UnderWay.{UnderWay}
-use Rattle.dcsctp_types.specs.queues.SendStreams.{Waiting, Stream, IsAscending, front_of, is_expired, stream_at, unused_stream, with_message, next_numbers, stream_counted, renumbered_stream, amount_raised, turn_of}
+use Rattle.dcsctp_types.specs.queues.SendStreams.{Waiting, Stream, IsAscending, front_of, is_expired, stream_at, unused_stream, with_message, next_numbers, stream_counted, renumbered_stream, progress_size, stream_put_back, turn_of}
 
 -- What waits to be sent, of all streams.
 pub record SendQueueState : Type 0 where
   -- the streams that were used, ascending
   pub streams : List Stream
-  -- None: no message is begun that isn't fully sent
-  pub under_way : Option UnderWay
+  -- The stream whose message under way goes on before any other is asked. None: no message is under way, or all that are can be
+  -- interleaved.
+  pub held : Option StreamId
   -- the payload bytes of all streams
   pub total_amount : ℕ
   -- Once the total falls to this, the user gets an event.
@@ -27,17 +30,23 @@ pub record SendQueueState : Type 0 where
   pub is_interleaved : Bool
   -- counts the messages in the order in which they were added
   pub next_message_id : ℕ
-  -- Do streams of equal priority take turns? By the RFC they do (RFC 8260, section 3.2).
+  -- Do streams of equal priority take turns? By the RFC they do (RFC 8260, sections 3.2 and 3.5).
   pub takes_turns : Bool
   -- how many turns were taken
   pub turns_taken : ℕ
+  -- how many payload bytes a turn has where messages are interleaved
+  pub turn_size : ℕ
+
+-- the payload of an I-DATA chunk that fills a packet of that size (RFC 8260, section 2.1)
+abbrev pub full_payload : ℕ → ℕ
+full_payload mtu = (mtu - common_header_size - i_data_header_size) / 4 * 4
 
 -- as it is before any message
 abbrev pub empty_queue : Options → SendQueueState
 empty_queue options =
     record {
       streams = [];
-      under_way = None;
+      held = None;
       total_amount = 0;
       total_threshold = options.total_buffered_amount_low_threshold;
       default_priority = options.default_stream_priority;
@@ -46,34 +55,48 @@ empty_queue options =
       next_message_id = 0;
       takes_turns = options.follow_rfc;
       turns_taken = 0;
+      turn_size = full_payload options.mtu;
     }
 
 -- ---- what is true of it at all times
 
--- The message under way is the oldest of its stream, and a part of it was sent.
-pub record IsUnderWay (streams : List Stream) (under_way : UnderWay) : Type 0 where
-  pub place : ℕ
-  pub within : place < length streams
-  pub is : (stream_at streams place).id ≡ under_way.stream_id.0
+-- The message under way is the oldest of these of the stream of this number, and a part of it was sent.
+pub record IsUnderWay (id : ℕ) (messages : List Waiting) (under_way : UnderWay) : Type 0 where
+  pub is : id ≡ under_way.stream_id.0
   pub message : Waiting
-  pub front : front_of (stream_at streams place).messages ≡ Some message
+  pub front : front_of messages ≡ Some message
   pub begun : 0 < under_way.sent
   pub unfinished : under_way.sent < length message.payload
 
 -- If a message is under way, it can continue.
-abbrev pub CanGoOn : List Stream → Option UnderWay → Type 0
-CanGoOn streams None = Unit {0}
-CanGoOn streams (Some under_way) = IsUnderWay streams under_way
+abbrev pub CanContinue : ℕ → List Waiting → Option UnderWay → Type 0
+CanContinue id messages None = Unit {0}
+CanContinue id messages (Some under_way) = IsUnderWay id messages under_way
+
+abbrev pub CanGoOn : Stream → Type 0
+CanGoOn stream = CanContinue stream.id stream.messages stream.under_way
+
+-- The stream at the place is this one, and has a message under way.
+pub record IsGoingOn (streams : List Stream) (held : StreamId) (place : ℕ) : Type 0 where
+  pub within : place < length streams
+  pub is : (stream_at streams place).id ≡ held.0
+  pub goes_on : is_some (stream_at streams place).under_way ≡ true
+
+-- The stream that is held has a message under way.
+abbrev pub IsHeld : Option StreamId → List Stream → Type 0
+IsHeld None streams = Unit {0}
+IsHeld (Some held) streams = (place : ℕ) × IsGoingOn streams held place
 
 -- A message without bytes never waits.
 abbrev pub HaveBytes : Stream → Type 0
 HaveBytes stream = AllByRecursion (λ (message : Waiting). 0 < length message.payload) stream.messages
 
--- Each stream occurs once, each message has bytes, and the message under way can continue.
+-- Each stream occurs once, each message has bytes, each message under way can continue, and a stream that is held has one.
 pub record IsWellFormed (queue : SendQueueState) : Type 0 where
   pub ascending : IsAscending queue.streams
   pub bytes : AllByRecursion HaveBytes queue.streams
-  pub can : CanGoOn queue.streams queue.under_way
+  pub can : AllByRecursion CanGoOn queue.streams
+  pub held : IsHeld queue.held queue.streams
 
 -- ---- a stream of it
 
@@ -133,14 +156,9 @@ with_added id message queue =
       next_message_id = (queue.next_message_id + 1) % 2 ^ 64;
     }
 
--- Is a message under way, or does one wait on a stream that isn't paused?
-abbrev pub may_send : Option UnderWay → List Stream → Bool
-may_send None streams = list_any (λ stream. is_some (turn_of stream)) streams
-may_send (Some under_way) streams = true
-
 -- Is there data to send: a message under way, or one that may be started? Its age isn't looked at.
 abbrev pub has_queued_data : SendQueueState → Bool
-has_queued_data queue = may_send queue.under_way queue.streams
+has_queued_data queue = list_any (λ stream. is_some (turn_of stream)) queue.streams
 
 -- Is there a message at this moment whose lifetime isn't over?
 abbrev pub has_live : ℕ → List Waiting → Bool
@@ -148,7 +166,8 @@ has_live now messages = list_any (λ message. not (is_expired now message)) mess
 
 -- Does a message wait at this moment that can be sent? The rest of one under way is sent even if its lifetime is over.
 abbrev pub has_waiting_message : ℕ → SendQueueState → Bool
-has_waiting_message now queue = is_some queue.under_way || list_any (λ stream. is_some (turn_of stream) && has_live now stream.messages) queue.streams
+has_waiting_message now queue =
+    list_any (λ stream. is_some (turn_of stream) && (is_some stream.under_way || has_live now stream.messages)) queue.streams
 
 -- ---- which numbers count
 
@@ -169,42 +188,46 @@ message_renumbered under_way stream =
       mid = (next_numbers (is_front_unordered stream.messages) stream).1;
     }
 
--- the message under way takes the next number of its stream, so that no other message has the same
-abbrev pub renumbered_under_way : Option UnderWay → SendQueueState → SendQueueState
-renumbered_under_way None queue = queue
-renumbered_under_way (Some under_way) queue =
-    record queue {
-      streams = stream_changed under_way.stream_id.0 (front_counted queue.is_interleaved) queue.streams;
-      under_way = Some (message_renumbered under_way (queue_stream queue under_way.stream_id.0));
-    }
+-- The message under way of a stream, if there is one, takes the next number, so that no other message has the same.
+abbrev pub renumbered_under_way : Bool → Stream → Stream
+renumbered_under_way is_interleaved stream = renumbered stream.under_way
+  where
+    renumbered : Option UnderWay → Stream
+    renumbered None = stream
+    renumbered (Some under_way) = record (front_counted is_interleaved stream) { under_way = Some (message_renumbered under_way stream) }
 
 -- is the first another one than the second?
 abbrev pub is_other : Bool → Bool → Bool
 is_other true second = not second
 is_other false second = second
 
--- by the message under way, and whether messages are interleaved otherwise than before
-abbrev pub numbered_if_new : Option UnderWay → Bool → SendQueueState → SendQueueState
-numbered_if_new None is_new queue = queue
-numbered_if_new (Some under_way) false queue = queue
-numbered_if_new (Some under_way) true queue = renumbered_under_way (Some under_way) queue
-
 -- Messages are interleaved from now on, or not. If that is new, other numbers count than before.
 abbrev pub numbered_for : Bool → SendQueueState → SendQueueState
-numbered_for enabled queue = numbered_if_new queue.under_way (is_other queue.is_interleaved enabled) (record queue { is_interleaved = enabled })
+numbered_for enabled queue =
+    record queue {
+      is_interleaved = enabled;
+      streams = if is_other queue.is_interleaved enabled then map (renumbered_under_way enabled) queue.streams else queue.streams;
+    }
+
+-- May a message begin while others are under way? By the RFC it may, if messages are interleaved (RFC 8260, section 2.1).
+abbrev pub queue_interleaves : SendQueueState → Bool
+queue_interleaves queue = queue.is_interleaved && queue.takes_turns
 
 -- ---- another association
 
--- the message under way is put back
-abbrev pub put_back : Option UnderWay → SendQueueState → SendQueueState
-put_back None queue = queue
-put_back (Some under_way) queue =
+-- how many bytes were sent of messages under way
+abbrev pub under_way_size : List Stream → ℕ
+under_way_size streams = sum_by (λ stream. progress_size stream.under_way) streams
+
+-- Each message under way is put back.
+abbrev pub put_back : SendQueueState → SendQueueState
+put_back queue =
     record queue {
-      streams = stream_changed under_way.stream_id.0 (amount_raised under_way.sent) queue.streams;
-      total_amount = min (queue.total_amount + under_way.sent) (2 ^ 64 - 1);
-      under_way = None;
+      streams = map stream_put_back queue.streams;
+      total_amount = min (queue.total_amount + under_way_size queue.streams) (2 ^ 64 - 1);
+      held = None;
     }
 
 -- ready for another association
 abbrev pub queue_restarted : SendQueueState → SendQueueState
-queue_restarted queue = record (put_back queue.under_way queue) { streams = map renumbered_stream (put_back queue.under_way queue).streams }
+queue_restarted queue = record (put_back queue) { streams = map renumbered_stream (put_back queue).streams }

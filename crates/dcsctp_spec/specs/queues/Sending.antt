@@ -1,10 +1,11 @@
 -- What leaves the send queue: fragments of messages, and messages that are dropped (RFC 9260, section 6.9; RFC 3758, section 3.5).
-use Rattle.std.specs.Prelude.{◌≡◌, ◌<◌, ℕ, ◌+◌, ◌-◌, ◌^◌, ◌%◌, ◌==◌, min, nat_le, Bool, true, false, Option, None, Some, List, [], ◌++◌, length, take, drop, slice_set, if◌then◌else◌}
+use Rattle.std.specs.Prelude.{◌≡◌, ◌<◌, ℕ, ◌+◌, ◌-◌, ◌^◌, ◌%◌, ◌==◌, ◌&&◌, ◌||◌, not, is_some, min, nat_le, Bool, true, false, Option, None, Some, List, [], ◌++◌, length, take, drop, slice_set, if◌then◌else◌}
 use Rattle.dcsctp_spec.specs.endpoint.Event.{Event}
+use Rattle.dcsctp_types.specs.declared.ids.StreamId.{StreamId}
 use Rattle.dcsctp_types.specs.declared.sending.UnderWay.{UnderWay}
-use Rattle.dcsctp_types.specs.queues.SendStreams.{Waiting, Stream, front_of, is_expired, without_front, next_numbers, stream_counted, served_stream, stream_at, turns_of, IsNext}
+use Rattle.dcsctp_types.specs.queues.SendStreams.{Waiting, Stream, front_of, is_expired, without_front, stream_with_progress, next_numbers, stream_counted, served_stream, fills_turn, stream_with_turn_bytes, stream_at, turns_of, IsNext}
 use Rattle.dcsctp_spec.specs.queues.SendEvents.{low_events, expiry_events, sent_events}
-use Rattle.dcsctp_spec.specs.queues.SendQueue.{SendQueueState}
+use Rattle.dcsctp_spec.specs.queues.SendQueue.{SendQueueState, queue_interleaves}
 
 -- ---- a fragment
 
@@ -79,23 +80,71 @@ without_oldest place queue = record queue { streams = slice_set queue.streams pl
 abbrev pub next_turn : SendQueueState → ℕ
 next_turn queue = if queue.takes_turns then (queue.turns_taken + 1) % 2 ^ 64 else queue.turns_taken
 
--- A message of the stream at the place is begun: its numbers are used up, and the stream has had its turn.
-abbrev pub begun_message_counted : ℕ → Bool → SendQueueState → SendQueueState
-begun_message_counted place is_unordered queue =
-    record queue {
-      streams = slice_set queue.streams place (served_stream (next_turn queue) (stream_counted queue.is_interleaved is_unordered (stream_at queue.streams place)));
-      turns_taken = next_turn queue;
-    }
+-- the queue with another stream at the place
+abbrev pub queue_with_stream : ℕ → Stream → SendQueueState → SendQueueState
+queue_with_stream place stream queue = record queue { streams = slice_set queue.streams place stream }
 
--- It is counted, if it is begun.
-abbrev pub begun_numbered : ℕ → Waiting → UnderWay → SendQueueState → SendQueueState
-begun_numbered place message under_way queue = if under_way.sent == 0 then begun_message_counted place message.is_unordered queue else queue
+-- The numbers of a message of the stream at the place are used up, if it is begun.
+abbrev pub queue_numbered : ℕ → Bool → Bool → SendQueueState → SendQueueState
+queue_numbered place begins is_unordered queue =
+    if begins then queue_with_stream place (stream_counted queue.is_interleaved is_unordered (stream_at queue.streams place)) queue else queue
+
+-- The stream at the place has had its turn, if that is over.
+abbrev pub queue_served : ℕ → Bool → SendQueueState → SendQueueState
+queue_served place is_over queue =
+    if is_over then record (queue_with_stream place (served_stream (next_turn queue) (stream_at queue.streams place)) queue) { turns_taken = next_turn queue } else queue
+
+-- The stream at the place sends that many bytes of its turn.
+abbrev pub queue_with_turn_bytes : ℕ → ℕ → SendQueueState → SendQueueState
+queue_with_turn_bytes place size queue = queue_with_stream place (stream_with_turn_bytes queue.turn_size size (stream_at queue.streams place)) queue
+
+-- The turn of the stream at the place with a fragment of that many bytes. Where messages are interleaved a turn has a number of
+-- bytes (RFC 8260, section 3.5). Else it is a message, and over as that is begun (section 3.2).
+abbrev pub turn_counted : ℕ → Bool → ℕ → SendQueueState → SendQueueState
+turn_counted place begins size queue =
+    if queue_interleaves queue
+    then queue_served place (fills_turn queue.turn_size size (stream_at queue.streams place)) (queue_with_turn_bytes place size queue)
+    else queue_served place begins queue
+
+-- A fragment of that many bytes of the stream at the place is counted: its message, if it is begun, and the stream's turn.
+abbrev pub fragment_counted : ℕ → ℕ → Waiting → UnderWay → SendQueueState → SendQueueState
+fragment_counted place size message under_way queue =
+    turn_counted place (under_way.sent == 0) size (queue_numbered place (under_way.sent == 0) message.is_unordered queue)
+
+-- how far a message has come after one more fragment, of that many bytes
+abbrev pub progress_after : ℕ → UnderWay → UnderWay
+progress_after size under_way = record under_way { next_fsn = (under_way.next_fsn + 1) % 2 ^ 32; sent = under_way.sent + size }
+
+-- The oldest message of the stream at the place has come so far.
+abbrev pub queue_with_progress : ℕ → UnderWay → SendQueueState → SendQueueState
+queue_with_progress place under_way queue = queue_with_stream place (stream_with_progress under_way (stream_at queue.streams place)) queue
+
+-- May the message be abandoned: has it a limit of retransmissions or of time (RFC 3758, section 4)?
+abbrev pub may_be_abandoned : Waiting → Bool
+may_be_abandoned message = is_some message.max_retransmissions || is_some message.expires_at
+
+-- Does the message, once begun, go to its end before any other is asked? Where messages are interleaved one that may be abandoned
+-- does, so that its items have TSNs in a row.
+abbrev pub is_kept_whole : Waiting → SendQueueState → Bool
+is_kept_whole message queue = may_be_abandoned message || not (queue_interleaves queue)
+
+-- the stream that is held after a fragment that isn't the last of its message
+abbrev pub stream_held_after : StreamId → Waiting → SendQueueState → Option StreamId
+stream_held_after id message queue = if is_kept_whole message queue then Some id else None
+
+-- The stream is held no longer, if it was.
+abbrev pub released_queue : ℕ → SendQueueState → SendQueueState
+released_queue id queue = record queue { held = released queue.held }
+  where
+    released : Option StreamId → Option StreamId
+    released None = None
+    released (Some held) = if held.0 == id then None else Some held
 
 -- after a fragment of that many bytes that isn't the last
 abbrev pub after_part : ℕ → ℕ → Waiting → UnderWay → SendQueueState → SendQueueState
 after_part place size message under_way queue =
-    record (begun_numbered place message under_way (reduced_queue place size queue)) {
-      under_way = Some (record under_way { next_fsn = (under_way.next_fsn + 1) % 2 ^ 32; sent = under_way.sent + size });
+    record (queue_with_progress place (progress_after size under_way) (fragment_counted place size message under_way (reduced_queue place size queue))) {
+      held = stream_held_after under_way.stream_id message queue;
     }
 
 abbrev pub part_events : {P : Type 0} → ℕ → ℕ → SendQueueState → List (Event P)
@@ -104,9 +153,10 @@ part_events place size queue = low_events (stream_at queue.streams place) queue.
 -- after the last fragment
 abbrev pub after_last : ℕ → Waiting → UnderWay → SendQueueState → SendQueueState
 after_last place message under_way queue =
-    record (without_oldest place (begun_numbered place message under_way (reduced_queue place (length message.payload - under_way.sent) queue))) {
-      under_way = None;
-    }
+    released_queue under_way.stream_id.0
+    (without_oldest place
+    (fragment_counted place (length message.payload - under_way.sent) message under_way
+    (reduced_queue place (length message.payload - under_way.sent) queue)))
 
 abbrev pub last_events : {P : Type 0} → ℕ → Waiting → UnderWay → SendQueueState → List (Event P)
 last_events place message under_way queue = part_events place (length message.payload - under_way.sent) queue ++ sent_events message
@@ -130,6 +180,10 @@ drop_events place sent message queue =
     low_events (stream_at queue.streams place) queue.total_threshold queue.total_amount (length message.payload - sent)
     ++ expiry_events message
 
+-- Is it the oldest message of the stream, too old to be started? One that was started goes on.
+abbrev pub is_too_old : ℕ → Waiting → Stream → Bool
+is_too_old now message stream = not (is_some stream.under_way) && is_expired now message
+
 -- Messages that are too old to be started are dropped, each the oldest of the stream whose turn it is.
 pub data Drops {P : Type 0} (now : ℕ) (old : SendQueueState) : List (Event P) → SendQueueState → Type 0 where
   none : Drops now old [] old
@@ -137,7 +191,7 @@ pub data Drops {P : Type 0} (now : ℕ) (old : SendQueueState) : List (Event P) 
       → Drops now old events queue
       → IsNext queue.streams place
       → front_of (stream_at queue.streams place).messages ≡ Some message
-      → is_expired now message ≡ true
+      → is_too_old now message (stream_at queue.streams place) ≡ true
       → Drops now old (events ++ drop_events place 0 message queue) (without_rest place 0 message queue)
 
 -- Such messages are dropped, and their events are added.
@@ -148,13 +202,19 @@ pub record DropsAll {P : Type 0} (now : ℕ) (old : SendQueueState) (told_before
 
 -- ---- which fragment is taken
 
--- Which message a fragment is taken of: the one under way, or else the oldest of the stream whose turn it is. Before that,
+-- how far the oldest message of the stream has come: it is under way, or is begun
+abbrev pub next_progress : Waiting → Stream → UnderWay
+next_progress message stream = come_to stream.under_way
+  where
+    come_to : Option UnderWay → UnderWay
+    come_to None = begun_under_way message stream
+    come_to (Some under_way) = under_way
+
+-- Of which stream's oldest message a fragment is taken: of the one that is held, or else of the one whose turn it is. Before that,
 -- messages that are too old to be started are dropped.
-abbrev pub Chooses : ℕ → SendQueueState → Option UnderWay → SendQueueState → ℕ → Waiting → UnderWay → Type 0
-Chooses now old None queue place message under_way =
-    IsNext queue.streams place × (is_expired now message ≡ false) × (under_way ≡ begun_under_way message (stream_at queue.streams place))
-Chooses now old (Some going) queue place message under_way =
-    (queue ≡ old) × (under_way ≡ going) × ((stream_at queue.streams place).id ≡ going.stream_id.0)
+abbrev pub Chooses : ℕ → SendQueueState → Option StreamId → SendQueueState → ℕ → Waiting → Type 0
+Chooses now old None queue place message = IsNext queue.streams place × (is_too_old now message (stream_at queue.streams place) ≡ false)
+Chooses now old (Some held) queue place message = (queue ≡ old) × ((stream_at queue.streams place).id ≡ held.0)
 
 -- A fragment is taken.
 pub record TakesFragment {P : Type 0} (now max : ℕ) (old : SendQueueState) (told_before : List (Event P)) (part : Fragment) (new : SendQueueState) (told_after : List (Event P)) : Type 0 where
@@ -166,14 +226,15 @@ pub record TakesFragment {P : Type 0} (now max : ℕ) (old : SendQueueState) (to
   pub message : Waiting
   pub under_way : UnderWay
   pub front : front_of (stream_at queue.streams place).messages ≡ Some message
-  pub chosen : Chooses now old old.under_way queue place message under_way
+  pub chosen : Chooses now old old.held queue place message
+  pub come : under_way ≡ next_progress message (stream_at queue.streams place)
   pub is : part ≡ fragment under_way message (size_produced max message under_way)
   pub left : new ≡ queue_after_producing place max message under_way queue
   pub events : told_after ≡ told ++ produced_events place max message under_way queue
 
--- No message is under way, and none is left that can be started.
+-- No stream is held, and none has a turn.
 pub record TakesNone {P : Type 0} (now : ℕ) (old : SendQueueState) (told_before : List (Event P)) (new : SendQueueState) (told_after : List (Event P)) : Type 0 where
-  pub idle : old.under_way ≡ None
+  pub idle : old.held ≡ None
   pub drops : DropsAll now old told_before new told_after
   pub none_left : turns_of new.streams ≡ []
 
@@ -183,14 +244,13 @@ TakesNextFragment now max old told_before (Some part) new told_after = TakesFrag
 
 -- ---- a message that is given up
 
--- The message under way is this one of this stream.
+-- The message under way of this stream is this one.
 pub record IsMessageUnderWay (queue : SendQueueState) (stream message_id : ℕ) : Type 0 where
-  pub under_way : UnderWay
-  pub goes_on : queue.under_way ≡ Some under_way
   pub place : ℕ
   pub within : place < length queue.streams
   pub is : (stream_at queue.streams place).id ≡ stream
-  pub same : under_way.stream_id.0 ≡ stream
+  pub under_way : UnderWay
+  pub goes_on : (stream_at queue.streams place).under_way ≡ Some under_way
   pub message : Waiting
   pub front : front_of (stream_at queue.streams place).messages ≡ Some message
   pub named : message.message_id ≡ message_id
@@ -198,7 +258,7 @@ pub record IsMessageUnderWay (queue : SendQueueState) (stream message_id : ℕ) 
 -- What is left of the message under way is dropped.
 pub record Discards {P : Type 0} (old : SendQueueState) (stream message_id : ℕ) (told_before : List (Event P)) (new : SendQueueState) (told_after : List (Event P)) : Type 0 where
   pub named : IsMessageUnderWay old stream message_id
-  pub left : new ≡ record (without_rest named.place named.under_way.sent named.message old) { under_way = None }
+  pub left : new ≡ released_queue stream (without_rest named.place named.under_way.sent named.message old)
   pub events : told_after ≡ told_before ++ drop_events named.place named.under_way.sent named.message old
 
 abbrev pub DiscardsNamed : {P : Type 0} → SendQueueState → ℕ → ℕ → List (Event P) → Bool → SendQueueState → List (Event P) → Type 0

@@ -2,8 +2,8 @@
 //!
 //! `# NAME` names the test that follows. An empty line is skipped. S is a stream.
 //!
-//!     begin N N [by-rfc]          a new queue: the threshold of each stream, and that of all together; it follows
-//!                                 the RFCs if the line says so
+//!     begin N N [RULES]           a new queue: the threshold of each stream, and that of all together; it follows
+//!                                 the RFCs where RULES is `by-rfc` or `mtu N`, with packets of N bytes
 //!     now N                       the moment from here on, in milliseconds; after `begin` it is 0
 //!     later N                     it is this many nanoseconds later
 //!     name N, lifetime N, times N, unordered
@@ -30,7 +30,7 @@
 //!     snapshot expires I TIME     the milliseconds after which a message is abandoned: `Some(N)` or `None`
 //!     write next-message N, write stream NUMBERS, write message NUMBERS BYTES
 //!                                 adds to it by hand; the numbers are all that `snapshot` reads there
-//!     another N N N               a new queue at moment 0: the thresholds, and the priority of each stream
+//!     another N N N [RULES]       a new queue at moment 0: the thresholds, and the priority of each stream
 //!     restore                     restores the snapshot at this moment
 //!
 //! NUMBERS are some of the names that `sender` and `snapshot` list, in that order, with a number after each. For

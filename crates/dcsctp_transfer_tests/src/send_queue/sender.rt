@@ -97,6 +97,19 @@ fn read_thresholds(row: &mut Row) -> Options {
     options
 }
 
+// The RFCs are followed where a line ends in `by-rfc`, or in `mtu` with the size of a packet.
+fn read_rules(row: &mut Row, options: &mut Options) {
+    match row.next() {
+        "" => {}
+        "by-rfc" => options.follow_rfc = true,
+        "mtu" => {
+            options.follow_rfc = true;
+            options.mtu = row.number();
+        }
+        _ => row.done(false),
+    }
+}
+
 impl Sender {
     /// A sender with these options and no snapshot.
     pub fn new(alloc: Global, options: &Options) -> Sender {
@@ -110,14 +123,10 @@ impl Sender {
         }
     }
 
-    // Replaces it with a new one, which follows the RFCs where the line ends in `by-rfc`.
+    // Replaces it with a new one.
     fn begin(&mut self, row: &mut Row) {
         let mut options = read_thresholds(row);
-        match row.next() {
-            "" => {}
-            "by-rfc" => options.follow_rfc = true,
-            _ => row.done(false),
-        }
+        read_rules(row, &mut options);
         *self = Sender::new(self.alloc, &options);
     }
 
@@ -125,6 +134,7 @@ impl Sender {
     fn begin_another(&mut self, row: &mut Row) {
         let mut options = read_thresholds(row);
         options.default_stream_priority = row.number();
+        read_rules(row, &mut options);
         self.queue = SendQueue::new(self.alloc, &options);
         self.events = Events::new(self.alloc);
         self.now = SocketTime::zero();

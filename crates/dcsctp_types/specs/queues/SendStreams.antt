@@ -1,8 +1,9 @@
 -- Streams that messages are sent by: what waits on them, and whose turn it is. Moments are nanoseconds.
-use Rattle.std.specs.Prelude.{◌≡◌, ◌<◌, ℕ, ◌+◌, ◌-◌, ◌^◌, ◌%◌, ◌==◌, ◌&&◌, ◌||◌, min, nat_lt, Bool, true, false, Option, None, Some, List, [], ◌∷◌, ◌++◌, length, take, drop, slice_index_or, if◌then◌else◌}
+use Rattle.std.specs.Prelude.{◌≡◌, ◌<◌, nat_le, is_some, ℕ, ◌+◌, ◌-◌, ◌^◌, ◌%◌, ◌==◌, ◌&&◌, ◌||◌, min, nat_lt, Bool, true, false, Option, None, Some, List, [], ◌∷◌, ◌++◌, length, take, drop, slice_index_or, if◌then◌else◌}
 use Rattle.dcsctp_types.specs.declared.sending.Pause.{Pause}
 use Rattle.dcsctp_types.specs.declared.sending.Pause.TheVariants.{Open, Pausing, HandedOut}
 use Rattle.dcsctp_types.specs.declared.sending.Turn.{Turn}
+use Rattle.dcsctp_types.specs.declared.sending.UnderWay.{UnderWay}
 
 -- A message that waits whole, or of which some fragments were sent.
 pub record Waiting : Type 0 where
@@ -27,8 +28,12 @@ pub record Stream : Type 0 where
   pub next_unordered_mid : ℕ
   -- Which turn it had last, counted from 1? 0 if it had none, or if streams of equal priority don't take turns.
   pub last_turn : ℕ
+  -- the payload bytes that it sent of its present turn, where messages are interleaved
+  pub turn_bytes : ℕ
   pub pause : Pause
-  -- the oldest first, and among them the one that is under way
+  -- How far the oldest message has come, if it was started. It isn't fully sent.
+  pub under_way : Option UnderWay
+  -- the oldest first
   pub messages : List Waiting
 
 -- is the stream to be reset, and its reset not requested yet?
@@ -48,7 +53,7 @@ is_expired now message = expired_by now message.expires_at
 -- a stream that was never used
 abbrev pub unused_stream : ℕ → ℕ → ℕ → Stream
 unused_stream id priority threshold =
-    record { id = id; priority = priority; threshold = threshold; amount = 0; next_ssn = 0; next_mid = 0; next_unordered_mid = 0; last_turn = 0; pause = Open; messages = [] }
+    record { id = id; priority = priority; threshold = threshold; amount = 0; next_ssn = 0; next_mid = 0; next_unordered_mid = 0; last_turn = 0; turn_bytes = 0; pause = Open; under_way = None; messages = [] }
 
 -- the oldest message
 abbrev pub front_of : List Waiting → Option Waiting
@@ -65,7 +70,16 @@ with_message message stream =
 
 -- without its oldest message
 abbrev pub without_front : Stream → Stream
-without_front stream = record stream { messages = drop 1 stream.messages }
+without_front stream = record stream { under_way = None; messages = drop 1 stream.messages }
+
+-- with its oldest message come so far
+abbrev pub stream_with_progress : UnderWay → Stream → Stream
+stream_with_progress under_way stream = record stream { under_way = Some under_way }
+
+-- how many bytes of a message were sent
+abbrev pub progress_size : Option UnderWay → ℕ
+progress_size None = 0
+progress_size (Some under_way) = under_way.sent
 
 -- paused, with only that many of its messages
 abbrev pub paused_stream : ℕ → Stream → Stream
@@ -99,9 +113,28 @@ stream_counted false true stream = stream
 stream_counted true false stream = record stream { next_mid = (stream.next_mid + 1) % 2 ^ 32 }
 stream_counted true true stream = record stream { next_unordered_mid = (stream.next_unordered_mid + 1) % 2 ^ 32 }
 
+-- its message under way is put back, to begin again
+abbrev pub stream_put_back : Stream → Stream
+stream_put_back stream = record (amount_raised (progress_size stream.under_way) stream) { under_way = None }
+
 -- it had this turn
 abbrev pub served_stream : ℕ → Stream → Stream
 served_stream turn stream = record stream { last_turn = turn }
+
+-- ---- a turn by bytes (RFC 8260, section 3.5)
+
+-- the bytes of its turn with that many more; they stop at the greatest `usize`
+abbrev pub turn_bytes_with : ℕ → Stream → ℕ
+turn_bytes_with size stream = min (stream.turn_bytes + size) (2 ^ 64 - 1)
+
+-- Is its turn, which has so many bytes, over with that many more?
+abbrev pub fills_turn : ℕ → ℕ → Stream → Bool
+fills_turn turn_size size stream = nat_le turn_size (turn_bytes_with size stream)
+
+-- It sends that many bytes of its turn. What it sends beyond its turn counts for the next.
+abbrev pub stream_with_turn_bytes : ℕ → ℕ → Stream → Stream
+stream_with_turn_bytes turn_size size stream =
+    record stream { turn_bytes = if fills_turn turn_size size stream then turn_bytes_with size stream - turn_size else turn_bytes_with size stream }
 
 -- it was reset, if it was handed out
 abbrev pub committed_stream : Stream → Stream
@@ -163,23 +196,25 @@ with_optional_turn (Some turn) turns = with_turn turn turns
 abbrev pub stream_at : List Stream → ℕ → Stream
 stream_at streams place = slice_index_or streams place (unused_stream 0 0 0)
 
--- the turn of an open stream with a message
-abbrev pub turn_if : ℕ → ℕ → ℕ → Pause → List Waiting → Option Turn
-turn_if priority last_turn id Open [] = None
-turn_if priority last_turn id Open (message ∷ messages) = Some (record { priority = priority; last_turn = last_turn; stream_id = record { 0 = id } })
-turn_if priority last_turn id Pausing messages = None
-turn_if priority last_turn id HandedOut messages = None
+-- May a stream with these messages send? A pause doesn't hold up a message that is under way.
+abbrev pub may_send_on : Option UnderWay → Pause → List Waiting → Bool
+may_send_on under_way pause [] = false
+may_send_on under_way Open (message ∷ messages) = true
+may_send_on under_way Pausing (message ∷ messages) = is_some under_way
+may_send_on under_way HandedOut (message ∷ messages) = is_some under_way
 
--- a stream's turn, if it may begin a message
+-- a stream's turn, if it may send
 abbrev pub turn_of : Stream → Option Turn
-turn_of stream = turn_if stream.priority stream.last_turn stream.id stream.pause stream.messages
+turn_of stream =
+    if may_send_on stream.under_way stream.pause stream.messages
+    then Some (record { priority = stream.priority; last_turn = stream.last_turn; stream_id = record { 0 = stream.id } }) else None
 
 -- the turns of all streams
 abbrev pub turns_of : List Stream → List Turn
 turns_of [] = []
 turns_of (stream ∷ streams) = with_optional_turn (turn_of stream) (turns_of streams)
 
--- It is this stream's turn: it may begin a message, and none that may is asked before it.
+-- It is this stream's turn: it may send, and none that may is asked before it.
 pub record IsNext (streams : List Stream) (place : ℕ) : Type 0 where
   pub turn : Turn
   pub within : place < length streams

@@ -1,54 +1,66 @@
-use Rattle.std.proofs.Common.{None, ap, sym, refl, ◌∙◌}
+use Rattle.std.proofs.Common.{ap, sym, refl, subst, is_some, ◌∙◌}
 use Rattle.std.proofs.lemmas.Result.{err_from_is_err_and}
-use Rattle.dcsctp_send_queue.proofs.GoingOnLemmas.{not_named}
+use Rattle.dcsctp_send_queue.proofs.GoingOnLemmas.{not_named, none_named, going_front, held-discarded}
 use Rattle.dcsctp_send_queue.proofs.ResetLemmas.{apart_by, same_by}
 use Rattle.dcsctp_send_queue.specs.Backlog.{queue_of}
-use Rattle.dcsctp_api.specs.spec.queues.SendQueue.{SendQueueState}
+use Rattle.dcsctp_api.specs.types.queues.SendStreams.{Stream, stream_at}
+use Rattle.dcsctp_api.specs.spec.queues.Sending.{released_queue}
+use Rattle.dcsctp_api.specs.spec.queues.SendQueue.{SendQueueState, CanGoOn, IsHeld}
 use Rattle.dcsctp_send_queue.proofs.backlog.Backlog.discard.Goals as goal
+
+pub returns-in_default-under_way-clause-ok : goal.returns-in_default-under_way-clause-ok
+returns-in_default-under_way-clause-ok c =
+    let idle = ap (λ (s : Stream). s.under_way) (sym c.at.ensures) ∙ (sym c.under_way.ensures.progress ∙ c.in_default-under_way.is) in
+    (none_named (queue_of c.args.self.now) c.args.stream_id.0 c.args.message_id c.in-Ok.place c.in-Ok.ensures.ascending c.in-Ok.ensures.found idle, refl, refl)
 
 pub returns-then-not-is_front_named-clause-ok : goal.returns-then-not-is_front_named-clause-ok
 returns-then-not-is_front_named-clause-ok c =
-    let rest = c.place_of-place.ensures.rest in
-    let other = apart_by rest.message.message_id c.args.message_id (sym (c.is_front_named.ensures rest.message rest.front) ∙ c.if-not-is_front_named.true) in (
-      not_named (queue_of c.args.self.now) c.args.stream_id.0 c.args.message_id c.place_of-place.result rest.message c.place_of-place.ensures.ascending
-          (rest.within, c.place_of-place.ensures.stream ∙ c.if-under_way-stream_id.false) rest.front other,
-      refl,
-      refl,
-    )
+    let goes = ap (λ (s : Stream). s.under_way) (sym c.at.ensures) ∙ (sym c.under_way.ensures.progress ∙ c.in-Some.is) in
+    let front = going_front (stream_at c.args.self.now.streams c.in-Ok.place) (ap is_some goes) (subst CanGoOn c.at.ensures c.under_way.ensures.can) in
+    let other = apart_by front.0.message_id c.args.message_id (sym (c.is_front_named.ensures front.0 front.1) ∙ c.if-not-is_front_named.true) in
+    (not_named (queue_of c.args.self.now) c.args.stream_id.0 c.args.message_id c.in-Ok.place front.0 c.in-Ok.ensures.ascending c.in-Ok.ensures.found front.1 other, refl, refl)
 
 pub returns-clause-ok : goal.returns-clause-ok
 returns-clause-ok c =
-    let rest = c.place_of-place.ensures.rest in
+    let goes = ap (λ (s : Stream). s.under_way) (sym c.at.ensures) ∙ (sym c.under_way.ensures.progress ∙ c.in-Some.is) in
+    let front = going_front (stream_at c.args.self.now.streams c.in-Ok.place) (ap is_some goes) (subst CanGoOn c.at.ensures c.under_way.ensures.can) in
     record {
       named = record {
+        place = c.in-Ok.place;
+        within = c.in-Ok.ensures.found.0;
+        is = c.in-Ok.ensures.found.1;
         under_way = c.in-Some.under_way;
-        goes_on = c.in-Some.is;
-        place = c.place_of-place.result;
-        within = rest.within;
-        is = c.place_of-place.ensures.stream ∙ c.if-under_way-stream_id.false;
-        same = c.if-under_way-stream_id.false;
-        message = rest.message;
-        front = rest.front;
-        named = same_by rest.message.message_id c.args.message_id (sym (c.is_front_named.ensures rest.message rest.front) ∙ c.if-not-is_front_named.false);
+        goes_on = goes;
+        message = front.0;
+        front = front.1;
+        named = same_by front.0.message_id c.args.message_id (sym (c.is_front_named.ensures front.0 front.1) ∙ c.if-not-is_front_named.false);
       };
-      left = ap {A = SendQueueState} (λ (q : SendQueueState). record q { under_way = None }) (c.in_ok-drop_front.ensures.ok rest.message rest.front);
-      events = c.in_ok-drop_front.ensures.told rest.message rest.front;
+      left = c.release.ensures ∙ ap {A = SendQueueState} (λ (q : SendQueueState). released_queue c.args.stream_id.0 q) (c.in_ok-drop_front.ensures.ok front.0 front.1);
+      events = c.in_ok-drop_front.ensures.told front.0 front.1;
     }
+
+pub returns-clause-held : goal.returns-clause-held
+returns-clause-held c =
+    let goes = ap (λ (s : Stream). s.under_way) (sym c.at.ensures) ∙ (sym c.under_way.ensures.progress ∙ c.in-Some.is) in
+    let front = going_front (stream_at c.args.self.now.streams c.in-Ok.place) (ap is_some goes) (subst CanGoOn c.at.ensures c.under_way.ensures.can) in
+    let left = c.release.ensures ∙ ap {A = SendQueueState} (λ (q : SendQueueState). released_queue c.args.stream_id.0 q) (c.in_ok-drop_front.ensures.ok front.0 front.1) in
+    subst (λ (q : SendQueueState). IsHeld q.held q.streams) (sym left)
+    (held-discarded (queue_of c.args.self.now) c.in-Ok.place c.in-Some.under_way.sent front.0 c.args.stream_id.0 c.requires c.in-Ok.ensures.found.1)
 
 pub returns-in_err-drop_front-clause-front : goal.returns-in_err-drop_front-clause-front
 returns-in_err-drop_front-clause-front c =
-    let rest = c.place_of-place.ensures.rest in
+    let goes = ap (λ (s : Stream). s.under_way) (sym c.at.ensures) ∙ (sym c.under_way.ensures.progress ∙ c.in-Some.is) in
+    let front = going_front (stream_at c.args.self.now.streams c.in-Ok.place) (ap is_some goes) (subst CanGoOn c.at.ensures c.under_way.ensures.can) in
     rw (err_from_is_err_and c.from_residual.result c.from_residual.ensures.1).1 (record {
       named = record {
+        place = c.in-Ok.place;
+        within = c.in-Ok.ensures.found.0;
+        is = c.in-Ok.ensures.found.1;
         under_way = c.in-Some.under_way;
-        goes_on = c.in-Some.is;
-        place = c.place_of-place.result;
-        within = rest.within;
-        is = c.place_of-place.ensures.stream ∙ c.if-under_way-stream_id.false;
-        same = c.if-under_way-stream_id.false;
-        message = rest.message;
-        front = rest.front;
-        named = same_by rest.message.message_id c.args.message_id (sym (c.is_front_named.ensures rest.message rest.front) ∙ c.if-not-is_front_named.false);
+        goes_on = goes;
+        message = front.0;
+        front = front.1;
+        named = same_by front.0.message_id c.args.message_id (sym (c.is_front_named.ensures front.0 front.1) ∙ c.if-not-is_front_named.false);
       };
-      tells = c.in_err-drop_front.ensures.front rest.message rest.front;
+      tells = c.in_err-drop_front.ensures.front front.0 front.1;
     })

@@ -2,8 +2,9 @@ use Rattle.std.proofs.Common.{◌+◌, ap, sym, subst, refl, ◌∙◌, List, ge
 use Rattle.dcsctp_api.specs.types.Ids.{stream_numbers}
 use Rattle.dcsctp_api.specs.types.declared.ids.StreamId.{StreamId}
 use Rattle.dcsctp_api.specs.types.queues.SendStreams.{Stream, handed_out}
-use Rattle.dcsctp_api.specs.spec.queues.SendQueue.{stream_changed, SendQueueState, CanGoOn}
-use Rattle.dcsctp_send_queue.proofs.ReadyLemmas.{handing_out-step, handing_out-all, can_go_on-handing_out}
+use Rattle.dcsctp_api.specs.spec.queues.SendQueue.{stream_changed, SendQueueState, IsHeld}
+use Rattle.dcsctp_send_queue.proofs.ReadyLemmas.{handing_out-step, handing_out-all}
+use Rattle.dcsctp_send_queue.proofs.HeldLemmas.{held-handing_out}
 use Rattle.dcsctp_send_queue.specs.Backlog.{queue_of}
 use Rattle.dcsctp_send_queue.proofs.backlog.Backlog.hand_out.Goals as goal
 
@@ -21,5 +22,5 @@ returns c =
     ∙ ap {A = List Stream} (λ (s : List Stream). record (queue_of c.args.self.now) { streams = s }) (handing_out-all c.args.ids.now c.loop-id.id-index c.args.self.now.streams (omega arith)) in
     record {
       left = left;
-      can = λ can. subst (λ (q : SendQueueState). CanGoOn q.streams q.under_way) (sym left) (can_go_on-handing_out (stream_numbers c.args.ids.now) c.args.self.now.streams c.args.self.now.under_way can);
+      held = λ held. subst (λ (q : SendQueueState). IsHeld q.held q.streams) (sym left) (held-handing_out (stream_numbers c.args.ids.now) c.args.self.now.streams c.args.self.now.held held);
     }

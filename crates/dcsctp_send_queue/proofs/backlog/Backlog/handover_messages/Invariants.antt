@@ -6,4 +6,4 @@ use Rattle.dcsctp_send_queue.proofs.backlog.Backlog.handover_messages.Given as g
 
 -- The messages of the streams so far.
 abbrev pub invariant-loop-place : goal.invariant-loop-place
-invariant-loop-place l = map queued_part l.all.items ≡ flat_map (messages_given l.now l.self.under_way) (take l.place l.self.streams)
+invariant-loop-place l = map queued_part l.all.items ≡ flat_map (messages_given l.now) (take l.place l.self.streams)

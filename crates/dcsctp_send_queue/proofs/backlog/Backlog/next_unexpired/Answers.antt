@@ -1,7 +1,7 @@
 use Rattle.std.proofs.Common.{inl, refl, ◌++◌, [], append_assoc, ap, sym, ◌∙◌, arith, rules}
 use Rattle.std.proofs.lemmas.Result.{err_from_is_err_and}
 use Rattle.dcsctp_send_queue.proofs.FrontLemmas.{front_from}
-use Rattle.dcsctp_send_queue.proofs.GoingOnLemmas.{drops-under_way}
+use Rattle.dcsctp_send_queue.proofs.GoingOnLemmas.{drops-held}
 use Rattle.dcsctp_send_queue.specs.Telling.{contents}
 use Rattle.dcsctp_api.specs.spec.queues.Sending.{none, more, drop_events}
 use Rattle.dcsctp_api.specs.spec.queues.SendQueue.{SendQueueState}
@@ -50,7 +50,7 @@ returns-in_err-drop_front-clause-front c max idle =
       drops = c.loop-place.invariant.drops;
       coming = drop_events c.in-Some.place 0 front.0 (queue_of c.loop-place.self);
       next = inl (record {
-        idle = drops-under_way _ _ _ _ c.loop-place.invariant.drops ∙ idle;
+        idle = drops-held _ _ _ _ c.loop-place.invariant.drops ∙ idle;
         place = c.in-Some.place;
         message = front.0;
         next = next;

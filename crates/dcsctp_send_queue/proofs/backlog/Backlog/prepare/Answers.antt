@@ -2,7 +2,7 @@ use Rattle.std.proofs.Common.{ℕ, List, ◌++◌, ap, sym, subst, ◌∙◌, ru
 use Rattle.dcsctp_api.specs.spec.endpoint.Event.{Event}
 use Rattle.dcsctp_send_queue.specs.Telling.{contents, AddsFront}
 use Rattle.dcsctp_api.specs.spec.queues.OwnResets.{is_open_pause, prepared_queue, prepare_events_of}
-use Rattle.dcsctp_send_queue.proofs.ResetLemmas.{on_ok_map, on_err_map, paused_is, open_is, closed_is, open_events, closed_events, can_go_on-after_pause}
+use Rattle.dcsctp_send_queue.proofs.ResetLemmas.{on_ok_map, on_err_map, paused_is, open_is, closed_is, open_events, closed_events, held-after_pause}
 use Rattle.dcsctp_send_queue.proofs.QueueLemmas.{stream_found-at}
 use Rattle.dcsctp_send_queue.specs.Backlog.{queue_of}
 use Rattle.dcsctp_api.specs.spec.queues.SendQueue.{SendQueueState}
@@ -25,9 +25,10 @@ returns-in-Open-clause-told c =
     ∙ ap {A = SendQueueState} (λ (q : SendQueueState). prepare_events_of c.args.stream_id.0 q) c.in_ok-place.ensures.ok))
     c.pause.ensures.told
 
-pub returns-in-Open-clause-can : goal.returns-in-Open-clause-can
-returns-in-Open-clause-can c can =
-    can_go_on-after_pause c.pause.result c.use_stream.new.self c.pause.new.self c.in_ok-place.place c.pause.ensures.ok c.pause.ensures.err c.in_ok-place.ensures.place.0 (c.in_ok-place.ensures.can can)
+pub returns-in-Open-clause-held : goal.returns-in-Open-clause-held
+returns-in-Open-clause-held c held =
+    held-after_pause c.pause.result (queue_of c.use_stream.new.self) (queue_of c.pause.new.self) c.in_ok-place.place c.pause.ensures.ok (on_err_map c.pause.result (λ e. ap queue_of e) c.pause.ensures.err)
+    c.in_ok-place.ensures.place.0 (c.in_ok-place.ensures.held held)
 
 pub returns-in-Open-clause-front : goal.returns-in-Open-clause-front
 returns-in-Open-clause-front c =

@@ -1,13 +1,29 @@
-use Rattle.std.proofs.Common.{◌∙◌}
-use Rattle.dcsctp_api.specs.types.queues.SendStreams.{amount_raised}
-use Rattle.dcsctp_send_queue.proofs.ResetLemmas.{put_back_is}
-use Rattle.dcsctp_send_queue.proofs.QueueLemmas.{changed_at}
+use Rattle.std.proofs.Common.{ap, ◌∙◌, length, refl, arith}
+use Rattle.dcsctp_api.specs.types.queues.SendStreams.{stream_put_back}
+use Rattle.dcsctp_api.specs.spec.queues.SendQueue.{SendQueueState}
+use Rattle.dcsctp_send_queue.proofs.Mapped.{length-mapped_to}
+use Rattle.dcsctp_send_queue.proofs.PuttingBackLemmas.{put_back_none, put_back_step, put_back_all, size_none, sent_step}
 use Rattle.dcsctp_send_queue.specs.Backlog.{queue_of}
 use Rattle.dcsctp_send_queue.proofs.backlog.Backlog.put_back.Goals as goal
 
-pub returns-in-Some-clause-back : goal.returns-in-Some-clause-back
-returns-in-Some-clause-back c =
-    put_back_is (queue_of c.args.self.now) c.args.self.now.under_way c.in-Some.under_way c.raise.new.self c.saturating_add-self.result c.in-Some.is
-    (c.raise.ensures ∙ changed_at c.args.self.now.streams c.place_of-place.result c.in-Some.under_way.stream_id.0 (amount_raised c.in-Some.under_way.sent)
-    c.place_of-place.ensures.ascending (c.place_of-place.ensures.rest.within, c.place_of-place.ensures.stream))
-    c.saturating_add-self.ensures
+pub loop-place-init : goal.loop-place-init
+loop-place-init c = record { queue = put_back_none (queue_of c.args.self.now); sent = size_none c.args.self.now.streams }
+
+pub put_back-more-requires : goal.put_back-more-requires
+put_back-more-requires c =
+    let len = ap (λ (q : SendQueueState). length q.streams) c.loop-place.invariant.queue ∙ length-mapped_to c.loop-place.place stream_put_back c.args.self.now.streams in
+    omega (arith, len)
+
+pub loop-place-preserved : goal.loop-place-preserved
+loop-place-preserved c =
+    let queue = c.loop-place.invariant.queue in
+    record {
+      queue = put_back_step (queue_of c.args.self.now) (queue_of c.loop-place.self) c.loop-place.place _ c.put_back-more.new.self queue c.put_back-more.ensures.left refl (omega arith);
+      sent = sent_step (queue_of c.args.self.now) (queue_of c.loop-place.self) c.loop-place.place _ c.put_back-more.result c.loop-place.sent c.saturating_add-sent.result queue
+          c.put_back-more.ensures.sent c.loop-place.invariant.sent c.saturating_add-sent.ensures refl (omega arith);
+    }
+
+pub returns-clause-back : goal.returns-clause-back
+returns-clause-back c =
+    put_back_all (queue_of c.args.self.now) (queue_of c.loop-place.self) c.loop-place.place c.loop-place.sent c.saturating_add-self.result c.loop-place.invariant.queue c.loop-place.invariant.sent
+    c.saturating_add-self.ensures (omega arith)

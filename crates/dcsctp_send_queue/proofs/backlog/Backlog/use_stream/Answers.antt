@@ -2,7 +2,8 @@ use Rattle.std.proofs.Common.{ap, ◌∙◌}
 use Rattle.std.specs.List.{insert}
 use Rattle.dcsctp_api.specs.types.queues.SendStreams.{unused_stream}
 use Rattle.dcsctp_send_queue.proofs.PlaceLemmas.{IsAscending-insert}
-use Rattle.dcsctp_send_queue.proofs.GoingOnLemmas.{insert-used, can_go_on-insert}
+use Rattle.dcsctp_send_queue.proofs.UsedLemmas.{insert-used}
+use Rattle.dcsctp_send_queue.proofs.HeldLemmas.{held-insert}
 use Rattle.dcsctp_send_queue.specs.Backlog.{queue_of}
 use Rattle.dcsctp_send_queue.proofs.backlog.Backlog.use_stream.Goals as goal
 
@@ -17,5 +18,5 @@ returns-in_ok-insert-in-Err-clause-ascending c =
     rw (c.in_ok-insert-in-Err.ensures.ok, c.new_stream-stream.ensures)
     (IsAscending-insert c.args.self.now.streams c.in-Err.place (unused_stream c.args.stream_id.0 c.args.self.now.default_priority c.args.self.now.default_threshold) c.in-Err.ensures.ascending c.in-Err.ensures.found)
 
-pub returns-in_ok-insert-in-Err-clause-can : goal.returns-in_ok-insert-in-Err-clause-can
-returns-in_ok-insert-in-Err-clause-can c can = rw c.in_ok-insert-in-Err.ensures.ok (can_go_on-insert _ _ _ _ can c.in-Err.ensures.found.0)
+pub returns-in_ok-insert-in-Err-clause-held : goal.returns-in_ok-insert-in-Err-clause-held
+returns-in_ok-insert-in-Err-clause-held c held = rw c.in_ok-insert-in-Err.ensures.ok (held-insert _ _ _ _ held c.in-Err.ensures.found.0)

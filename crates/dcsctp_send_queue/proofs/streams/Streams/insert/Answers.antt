@@ -1,6 +1,6 @@
 use Rattle.std.proofs.Common.{Err, length, arith, refl, ap, ◌∙◌}
 use Rattle.dcsctp_send_queue.specs.Ranking.{IsFound}
-use Rattle.dcsctp_send_queue.proofs.BytesLemmas.{bytes_insert}
+use Rattle.dcsctp_send_queue.proofs.BytesLemmas.{bytes_insert, can_insert}
 use Rattle.dcsctp_send_queue.proofs.PauseLemmas.{holds_fresh, paused_insert}
 use Rattle.dcsctp_send_queue.proofs.PlaceLemmas.{ranked-insert}
 use Rattle.dcsctp_send_queue.proofs.StreamLemmas.{IsOrdered-turns_of, length-turns_of}
@@ -27,7 +27,7 @@ move_stream-requires c =
     let one = c.in_ok-reserve-2.ensures.room in
     let other = c.in_ok-reserve-2.ensures.more in
     holds_fresh c.self.inside.items _ _ c.self.invariant.ranked.ascending
-    (c.reserve-3.ensures.pausing ∙ c.self.invariant.paused.pausing) (c.reserve-3.ensures.handed_out ∙ c.self.invariant.paused.handed_out)
+    (c.reserve-3.ensures.ready ∙ c.self.invariant.paused.ready) (c.reserve-3.ensures.handed_out ∙ c.self.invariant.paused.handed_out)
     (omega (arith, room, kept, one)) (omega (arith, room, kept, other))
 
 pub invariant_of-self-2 : goal.invariant_of-self-2
@@ -48,9 +48,11 @@ invariant_of-self-2 c =
           (omega (arith, room, more, kept)) c.move_turn.ensures.capacity);
       paused = rw (c.in_ok-insert.ensures.ok, c.reserve.ensures.kept)
           (paused_insert c.self.inside.items c.reserve-3.new.self c.move_stream.new.self c.args.place c.args.stream _ _ c.self.invariant.ranked.ascending found
-          (c.reserve-3.ensures.pausing ∙ c.self.invariant.paused.pausing) (c.reserve-3.ensures.handed_out ∙ c.self.invariant.paused.handed_out)
-          c.id-id.ensures c.pause_state-pause.ensures c.move_stream.ensures.pausing c.move_stream.ensures.handed_out
+          (c.reserve-3.ensures.ready ∙ c.self.invariant.paused.ready) (c.reserve-3.ensures.handed_out ∙ c.self.invariant.paused.handed_out)
+          c.id-id.ensures c.pause_in_order-pause.ensures c.move_stream.ensures.ready c.move_stream.ensures.handed_out
           (omega (arith, room, kept, one, one_left)) (omega (arith, room, kept, other, other_left)));
       bytes = rw (c.in_ok-insert.ensures.ok, c.reserve.ensures.kept)
           (bytes_insert c.self.inside.items c.args.place c.args.stream c.self.invariant.bytes c.turn-turn.ensures.bytes found.0);
+      can = rw (c.in_ok-insert.ensures.ok, c.reserve.ensures.kept)
+          (can_insert c.self.inside.items c.args.place c.args.stream c.self.invariant.can c.turn-turn.ensures.can found.0);
     }

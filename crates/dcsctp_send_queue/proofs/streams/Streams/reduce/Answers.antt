@@ -1,5 +1,5 @@
 use Rattle.std.proofs.Common.{◌<◌, length, refl}
-use Rattle.dcsctp_send_queue.proofs.BytesLemmas.{bytes_same}
+use Rattle.dcsctp_send_queue.proofs.BytesLemmas.{bytes_same, can_same}
 use Rattle.dcsctp_send_queue.proofs.PauseLemmas.{paused_same}
 use Rattle.dcsctp_send_queue.proofs.StreamLemmas.{ranked_read_same}
 use Rattle.dcsctp_send_queue.proofs.streams.Streams.reduce.Goals as goal
@@ -13,4 +13,5 @@ invariant_of-self c =
       paused = paused_same _ _ c.args.place _ _ c.self.invariant.ranked.ascending c.self.invariant.paused lt c.at_mut-stream.ensures.value
           (rw c.reduce.ensures refl) (rw c.reduce.ensures refl);
       bytes = bytes_same _ c.args.place _ _ c.self.invariant.bytes lt c.at_mut-stream.ensures.value (rw c.reduce.ensures refl);
+      can = can_same _ c.args.place _ _ c.self.invariant.can lt c.at_mut-stream.ensures.value (rw c.reduce.ensures refl) (rw c.reduce.ensures refl) (rw c.reduce.ensures refl);
     }

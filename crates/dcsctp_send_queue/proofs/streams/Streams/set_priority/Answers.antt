@@ -1,5 +1,5 @@
 use Rattle.std.proofs.Common.{◌<◌, length, refl}
-use Rattle.dcsctp_send_queue.proofs.BytesLemmas.{bytes_set}
+use Rattle.dcsctp_send_queue.proofs.BytesLemmas.{bytes_set, can_set}
 use Rattle.dcsctp_send_queue.proofs.PauseLemmas.{paused_same}
 use Rattle.dcsctp_send_queue.proofs.StreamLemmas.{holds_read, ranked_read}
 use Rattle.dcsctp_send_queue.proofs.streams.Streams.set_priority.Goals as goal
@@ -18,4 +18,5 @@ invariant_of-self c =
       paused = paused_same _ _ c.args.place _ _ c.self.invariant.ranked.ascending c.self.invariant.paused lt c.at_mut-stream.ensures.value
           (rw c.set_priority.ensures refl) (rw c.set_priority.ensures refl);
       bytes = bytes_set _ c.args.place _ c.self.invariant.bytes c.turn-after.ensures.bytes;
+      can = can_set _ c.args.place _ c.self.invariant.can c.turn-after.ensures.can;
     }

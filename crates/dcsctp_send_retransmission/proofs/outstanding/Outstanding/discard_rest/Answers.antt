@@ -1,4 +1,4 @@
-use Rattle.std.proofs.Common.{inl, ◌≡◌, ◌∙◌, List, Some, true, subst, ℕ, ◌<◌, ◌^◌, ◌+◌, length, ap, refl, inr, arith}
+use Rattle.std.proofs.Common.{inl, ◌≡◌, ◌∙◌, List, Some, true, false, subst, ℕ, ◌<◌, ◌^◌, ◌+◌, length, ap, refl, inr, arith}
 use Rattle.dcsctp_api.specs.types.queues.Progress.{is_marked}
 use Rattle.dcsctp_api.specs.spec.queues.Outstanding.{OutstandingState}
 use Rattle.dcsctp_send_retransmission.proofs.ItemsLemmas.{kept_pushed, sums_leave_room, size_bounded}
@@ -59,6 +59,23 @@ returns-then-branch-clause-ok c last at =
         is_end = subst R third c.end_of_message-item.ensures;
         grows = rw (c.push_back_reserved.ensures.items, c.in_ok-reserve.ensures.items, ← c.self.view_is) refl;
       };
+    }
+
+pub returns-else-branch-clause-ok : goal.returns-else-branch-clause-ok
+returns-else-branch-clause-ok c last at =
+    let own : slice_get c.reserve.new.self.items c.args.place ≡ Some last =
+    ap (λ (xs : List Item). slice_get xs c.args.place) c.in_ok-reserve.ensures.items ∙ (ap (λ (m : OutstandingState). slice_get m.items c.args.place) c.self.view_is ∙ at) in
+    let first = index_at c.reserve.new.self.items c.args.place c.index.result.now last c.index.ensures own in
+    let second = index_at c.reserve.new.self.items c.args.place c.index-3.result.now last c.index-3.ensures own in
+    let stream = ap (λ (i : Inside). i.fragment.stream) c.index-2.view_is ∙ ap (λ (i : Item). i.fragment.stream) (c.behind-self.view_is ∙ first) in
+    let message = ap (λ (i : Inside). i.fragment.message_id) c.index-4.view_is ∙ ap (λ (i : Item). i.fragment.message_id) (c.behind-self-2.view_is ∙ second) in
+    let told = rw c.if-branch.false at c.in_ok-discard.ensures.ok in
+    let P : ℕ → Type 0 = λ x. DiscardsNamed c.args.queue.now x c.index-4.inside.0.0.message_id (contents c.args.events.now) false c.discard.new.self (contents c.discard.new.events) in
+    let Q : ℕ → Type 0 = λ x. DiscardsNamed c.args.queue.now last.fragment.stream x (contents c.args.events.now) false c.discard.new.self (contents c.discard.new.events) in
+    record {
+      is_dropped = false;
+      drops = subst Q message (subst P stream told);
+      ends = rw (c.in_ok-reserve.ensures.items, ← c.self.view_is) refl;
     }
 
 pub returns-in_err-discard-clause-front : goal.returns-in_err-discard-clause-front
