@@ -5,10 +5,15 @@ pub mod Named
 pub mod Alike
 pub mod Queueing
 pub mod Preparing
+pub mod Shut
 pub mod Ending
 pub mod FlushSteps
+pub mod KeptEpochs
 pub mod SendingRuns
+pub mod KeptSteps
+pub mod KeptRuns
 pub mod Behind
+pub mod AskedBounds
 pub mod Delivering
 pub mod Performing
 pub mod DeliveringRuns

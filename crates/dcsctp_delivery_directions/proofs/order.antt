@@ -6,6 +6,7 @@ pub mod Reach
 pub mod PlainTurns
 pub mod PlainRows
 pub mod Gaps
+pub mod Epochs
 pub mod Separated
 pub mod Leaving
 pub mod Ready

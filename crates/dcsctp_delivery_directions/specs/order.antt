@@ -1,6 +1,7 @@
 pub mod Rising
 pub mod Queue
 pub mod Order
+pub mod Epochs
 pub mod Reading
 pub mod Reach
 pub mod Incoming

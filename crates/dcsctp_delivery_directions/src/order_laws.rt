@@ -83,8 +83,8 @@ pub fn sending_loses_none()
     ensures in_turn { LosingNoneSendsInTurn }
 {}
 
-/// What a user reads is in order where the numbers of each stream begin at 0. Where nothing is skipped or reset either,
-/// it is a prefix of what was queued.
+/// What a user reads is in order where the numbers of each stream begin at 0. Where nothing that was sent has limits, and
+/// nothing is reset, it is a prefix of what was queued.
 pub fn read_is_in_order()
     ensures ordered { ReadIsInOrder }
     ensures without_gaps { ReadIsWithoutGaps }

@@ -2,7 +2,7 @@
 //! the sender has sent to it and what the receiver has received under it; a tag serves one association. Turn by turn
 //! of either side, what was read was sent, and nothing was read twice, in any association.
 
-ghost use Rattle.dcsctp_delivery_sockets.specs.associations.InOrder.{EndsArrive, EndsCutAsAsked, EndsDeliverByStream, EndsDeliverOnStreams, EndsDeliverDataInOrder, EndsDeliverWithoutGaps, EndsDeliverInOrder};
+ghost use Rattle.dcsctp_delivery_sockets.specs.associations.InOrder.{EndsArrive, EndsCutAsAsked, EndsCutWithoutGaps, EndsDeliverByStream, EndsDeliverOnStreams, EndsDeliverDataInOrder, EndsDeliverWithoutGaps, EndsDeliverInOrder};
 ghost use Rattle.dcsctp_delivery_sockets.specs.associations.Laws.{EndsBegin, EndsDeliver, ReceiversTurn, SendersResets, SendersTurn};
 
 /// Two sockets that were just made have nothing between them.
@@ -47,9 +47,11 @@ pub fn ends_deliver_in_order()
 
 /// Where messages interleave, and the numbers of each stream begin at 0, each reset of streams that the receiver has
 /// performed was asked for by the sender's user, and separates what was queued before from what was queued since (RFC
-/// 6525, sections 5.1.2 and 5.2.2).
+/// 6525, sections 5.1.2 and 5.2.2). Where the sender had one own tag, no message without limits is left out between two
+/// resets.
 pub fn ends_cut_as_asked()
-    ensures { EndsCutAsAsked }
+    ensures asked { EndsCutAsAsked }
+    ensures without_gaps { EndsCutWithoutGaps }
 {}
 
 /// Where the sender had one own tag, what was read of a stream's ordered messages is a prefix of what was queued: none

@@ -60,7 +60,9 @@ pub fn acts_keep_ends()
 /// none may be abandoned, are a prefix of what was sent, whatever happens on other streams. And each reset of streams
 /// that a user is told is performed, the peer's user was told of, with the same streams. Where messages interleave, each
 /// reset that a user is told its peer has made, the peer's user asked for by a call that was accepted: of a stream that
-/// it names, the messages read before, or ready by then, were sent before that call, and those read later since.
+/// it names, the messages read before, or ready by then, were sent before that call, and those read later since. Where
+/// the sender has no other own tag, what is read of the ordered messages between two such calls is a prefix of them, if
+/// none has limits.
 pub fn sockets_deliver()
     ensures { SocketsDeliver }
 {

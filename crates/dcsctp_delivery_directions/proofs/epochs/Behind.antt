@@ -6,23 +6,18 @@ use Rattle.dcsctp_spec.specs.types.declared.sending.Pause.TheVariants.{Open, Pau
 use Rattle.dcsctp_spec.specs.types.queues.SendStreams.{Stream}
 use Rattle.dcsctp_spec.specs.queues.Incoming.{is_named}
 use Rattle.dcsctp_spec.specs.queues.OwnResets.{is_open_pause}
-use Rattle.dcsctp_delivery_directions.specs.sending.Log.{Slot}
 use Rattle.dcsctp_delivery_directions.specs.sending.Numbers.{is_handed_out, stream_named}
 use Rattle.dcsctp_delivery_directions.specs.sending.Places.{HasEntry}
 use Rattle.dcsctp_delivery_directions.specs.directions.Directions.{Direction, DirectionStep, queues, sets, prepares, commits, rolls_back, flushes, resends, resends_nothing, speaks, asks_again, renews, turns_aside, acknowledges, loses, receives, forwards, receives_interleaved, forwards_interleaved, tracks, defers, performs, performs_earlier, resets, takes}
 use Rattle.dcsctp_delivery_directions.proofs.directions.Continuing.{EndsNone}
-use Rattle.dcsctp_delivery_directions.specs.order.Incoming.{NoneLimitedOn}
 use Rattle.dcsctp_delivery_directions.specs.order.Queue.{Cut}
 use Rattle.dcsctp_delivery_directions.specs.order.Reading.{Watch}
 use Rattle.dcsctp_delivery_directions.specs.epochs.Sending.{EpochBounds, asked_with}
 use Rattle.dcsctp_delivery_directions.specs.epochs.Directions.{asked_after}
 
--- All resets that were performed are watched, and gaps aren't.
-abbrev pub watch_of : (ℕ → List Cut) → ℕ → Watch
-watch_of cuts id = record { is_gapless = false; cuts = cuts id }
-
-pub none_free : (cuts : ℕ → List Cut) (log : List Slot) → NoneLimitedOn (watch_of cuts) log
-none_free cuts log n f at is = absurd (cc)
+-- All resets that were performed are watched, with when they are asked for.
+abbrev pub watch_of : (ℕ → ℕ → Bool) → (ℕ → List Cut) → ℕ → Watch
+watch_of asks cuts id = record { asks = asks id; cuts = cuts id }
 
 -- The reset was asked for by the newest request of a stream that is handed out, or earlier. It is performed, and has no end yet.
 pub record IsPending (streams : List Stream) (id : ℕ) (asked : EpochBounds) (cut : Cut) : Type 0 where

@@ -1,97 +1,28 @@
 -- Each reset that was performed is a cut at a place where it was asked for.
 use Rattle.std.proofs.Common.{◌≡◌, ℕ, Bool, true, false, ◌<◌, ◌+◌, ◌^◌, List, [], ◌∷◌, length, refl, sym, ◌∙◌, ap, arith, subst, inl, inr}
-use Rattle.std.specs.Prelude.{◌&&◌, Option, None, Some, if◌then◌else◌}
-use Rattle.std.specs.List.{AllByRecursion}
-use Rattle.std.proofs.lemmas.Bool.Decides.{eqb_tells}
+use Rattle.std.specs.Prelude.{Option, None, Some, if◌then◌else◌}
 use Rattle.dcsctp_spec.specs.types.declared.options.Options.{Options}
 use Rattle.dcsctp_spec.specs.endpoint.BegunResets.{BegunReset}
-use Rattle.dcsctp_spec.specs.queues.Incoming.{is_named}
-use Rattle.dcsctp_spec.specs.queues.OwnResets.{is_open_pause}
 use Rattle.dcsctp_spec.specs.queues.Reassembly.{ReassemblyState, names_stream, EndsDeferral}
-use Rattle.dcsctp_delivery_directions.specs.sending.Numbers.{is_handed_out, stream_named}
+use Rattle.dcsctp_delivery_directions.specs.sending.Numbers.{stream_named}
+use Rattle.dcsctp_delivery_directions.specs.sending.Log.{Message}
 use Rattle.dcsctp_delivery_directions.specs.sending.Places.{HasEntry}
 use Rattle.dcsctp_delivery_directions.specs.receiving.Clear.{IsOwn}
-use Rattle.dcsctp_delivery_directions.specs.directions.Directions.{Beginning, MayReset, PerformedReset, reset_performed, Direction, Asking, is_reset_reached, assigned_count, DirectionRun, begins, goes_on, starts, DirectionStep, queues, sets, prepares, commits, rolls_back, flushes, resends, resends_nothing, speaks, asks_again, renews, turns_aside, acknowledges, loses, receives, forwards, receives_interleaved, forwards_interleaved, tracks, defers, performs, performs_earlier, resets, takes}
+use Rattle.dcsctp_delivery_directions.specs.directions.Directions.{Beginning, PerformedReset, reset_performed, Direction, Asking, is_reset_reached, assigned_count, DirectionRun, begins, goes_on, starts, DirectionStep, queues, sets, prepares, commits, rolls_back, flushes, resends, resends_nothing, speaks, asks_again, renews, turns_aside, acknowledges, loses, receives, forwards, receives_interleaved, forwards_interleaved, tracks, defers, performs, performs_earlier, resets, takes}
 use Rattle.dcsctp_delivery_directions.proofs.directions.Calm.{none_has, none_asked}
 use Rattle.dcsctp_delivery_directions.proofs.directions.Losing.{same_beginning}
 use Rattle.dcsctp_delivery_directions.proofs.directions.Steps.{more_queued}
-use Rattle.dcsctp_delivery_directions.specs.order.Queue.{Cut, Separates}
+use Rattle.dcsctp_delivery_directions.specs.order.Queue.{Cut, Separates, LeaveNoGapBefore}
 use Rattle.dcsctp_delivery_directions.proofs.order.PlainSteps.{same_kind}
-use Rattle.dcsctp_delivery_directions.specs.epochs.Sending.{EpochBounds, asked_with, newest_ended, asked_ended, IsKnown}
-use Rattle.dcsctp_delivery_directions.specs.epochs.Directions.{asked_after, asked_of, opened_of}
-use Rattle.dcsctp_delivery_directions.specs.epochs.Cuts.{cut_added, cuts_with, cuts_after, cuts_of}
+use Rattle.dcsctp_delivery_directions.specs.epochs.Sending.{EpochBounds, IsKnown}
+use Rattle.dcsctp_delivery_directions.specs.epochs.Directions.{asked_of, opened_of}
+use Rattle.dcsctp_delivery_directions.specs.epochs.Cuts.{cut_added, cuts_with, cuts_after, cuts_of, known_asks}
 use Rattle.dcsctp_delivery_directions.specs.epochs.Asked.{AreCutAsAsked}
+use Rattle.dcsctp_delivery_directions.proofs.epochs.AskedBounds.{AreAsked, asked_on}
 use Rattle.dcsctp_delivery_directions.proofs.epochs.Behind.{handed_shut}
 use Rattle.dcsctp_delivery_directions.proofs.epochs.Delivering.{DeliversSo}
 use Rattle.dcsctp_delivery_directions.proofs.epochs.DeliveringRuns.{run_delivers, directions_deliver_by_epoch}
 use Rattle.dcsctp_delivery_directions.proofs.epochs.Performing.{handed}
-
--- ---- what was asked for
-
--- The newest request of each stream was one that the user makes.
-abbrev AreAsked : Beginning → (ℕ → EpochBounds) → Type 0
-AreAsked beginning asked = (id place : ℕ) → (asked id).newest ≡ Some place → beginning.asks id place ≡ true
-
-may_named : (beginning : Beginning) (count id : ℕ) (ids : List ℕ) → AllByRecursion (MayReset beginning count) ids → is_named ids id ≡ true → beginning.asks id count ≡ true
-may_named beginning count id [] may named = absurd (cc)
-may_named beginning count id (other ∷ ids) may named =
-    elim (eqb_tells other id) [
-      | inl e ↦ subst (λ (k : ℕ). beginning.asks k count ≡ true) e.1 may.0.asked
-      | inr e ↦ may_named beginning count id ids may.1 (rw e.0 at named)
-    ]
-
-first_of : (b c : Bool) → (b && c) ≡ true → b ≡ true
-first_of true c is = refl
-first_of false c is = absurd (cc)
-
-same_place : {one two : ℕ} → Some one ≡ Some two → one ≡ two
-same_place is = cc
-
-prepared_asked : (old : Direction) (ids : List ℕ) (asked : ℕ → EpochBounds) → AllByRecursion (MayReset old.beginning (length old.queued)) ids → AreAsked old.beginning asked
-    → AreAsked old.beginning (asked_with ids old.queues.queue.streams (length old.queued) asked)
-prepared_asked old ids asked may are id place = go (is_named ids id && is_open_pause (stream_named id old.queues.queue.streams).pause) refl
-  where
-    go : (b : Bool) → (is_named ids id && is_open_pause (stream_named id old.queues.queue.streams).pause) ≡ b → (if b then record (asked id) { newest = Some (length old.queued) } else asked id).newest ≡ Some place
-        → old.beginning.asks id place ≡ true
-    go true both is = subst (λ (k : ℕ). old.beginning.asks id k ≡ true) (same_place is) (may_named old.beginning (length old.queued) id ids may (first_of (is_named ids id) _ both))
-    go false both is = are id place is
-
-ended_asked : (old : Direction) (asked : ℕ → EpochBounds) → AreAsked old.beginning asked → AreAsked old.beginning (asked_ended old.queues.queue.streams asked)
-ended_asked old asked are id place = go (is_handed_out (stream_named id old.queues.queue.streams).pause)
-  where
-    by_newest : (o : Option ℕ) → (asked id).newest ≡ o → (newest_ended (record (asked id) { newest = o })).newest ≡ Some place → old.beginning.asks id place ≡ true
-    by_newest None none is = absurd (cc)
-    by_newest (Some other) some is = are id place (some ∙ is)
-
-    go : (b : Bool) → (if b then newest_ended (asked id) else asked id).newest ≡ Some place → old.beginning.asks id place ≡ true
-    go true is = by_newest (asked id).newest refl is
-    go false is = are id place is
-
-asked_on : (old direction : Direction) (step : DirectionStep old direction) (asked : ℕ → EpochBounds) → AreAsked old.beginning asked → AreAsked direction.beginning (asked_after old direction step asked)
-asked_on old _ (queues now sending fits some) asked are = are
-asked_on old _ (sets setting fits) asked are = are
-asked_on old _ (prepares ids fit kept) asked are = prepared_asked old ids asked kept are
-asked_on old _ (commits go_on) asked are = ended_asked old asked are
-asked_on old _ (rolls_back unmixed) asked are = are
-asked_on old _ (flushes e draft answers same no_data allowed) asked are = are
-asked_on old _ (resends now room transfer left tsns chunks emission known sends fill contents) asked are = are
-asked_on old _ (resends_nothing now room transfer left tsns known sends) asked are = are
-asked_on old _ (speaks emission no_data) asked are = are
-asked_on old _ (asks_again emission begun was contents) asked are = are
-asked_on old _ (renews emission newest earlier number asks out contents) asked are = are
-asked_on old _ (turns_aside transfer new known same) asked are = are
-asked_on old _ (acknowledges now sack transfer new known valid reached does) asked are = are
-asked_on old _ (loses now transfer known) asked are = are
-asked_on old _ (receives emission chunk theirs new was holds some same same' does) asked are = are
-asked_on old _ (forwards emission tsn streams theirs new was holds same same' does) asked are = are
-asked_on old _ (receives_interleaved emission chunk theirs new was holds some same same' does) asked are = are
-asked_on old _ (forwards_interleaved emission tsn streams theirs new was holds same same' does) asked are = are
-asked_on old _ (tracks new cumulative ranges) asked are = are
-asked_on old _ (defers last_tsn streams some) asked are = are
-asked_on old _ (performs newest earlier new asks unknown reached own leaves) asked are = are
-asked_on old _ (performs_earlier newest earlier new asks unknown reached own leaves) asked are = are
-asked_on old _ (resets streams new unmixed some leaves) asked are = are
-asked_on old _ (takes message messages ready) asked are = are
 
 -- ---- what was performed
 
@@ -241,8 +172,12 @@ opened_so options first size _ (begins direction b) from id = (b.begun.zero from
 opened_so options first size _ (goes_on old direction run step) from id = opened_so options first size old run (ap (λ (b : Beginning). b.from_zero) (sym (same_beginning old direction step)) ∙ from) id
 opened_so options first size _ (starts old queued below beginning run awaited fit waits none begun) from id = (begun.zero from).unpaused id
 
+-- Where the sender began with all that was queued, it is known when each reset was asked for.
+whole_before : (beginning : Beginning) (queued : List Message) (id end : ℕ) (places : List ℕ) → beginning.has_all ≡ true → LeaveNoGapBefore (known_asks beginning id) queued id end places → LeaveNoGapBefore (beginning.asks id) queued id end places
+whole_before beginning queued id end places whole = subst (λ (b : Bool). LeaveNoGapBefore (λ (count : ℕ). if b then beginning.asks id count else true) queued id end places → LeaveNoGapBefore (beginning.asks id) queued id end places) (sym whole) (λ gap. gap)
+
 pub directions_cut_as_asked : (options : Options) (first size : ℕ) (direction : Direction) → DirectionRun options first size direction → first < 2 ^ 32 → assigned_count direction < 2 ^ 31 → length direction.queued < 2 ^ 64
-    → direction.queues.queue.is_interleaved ≡ true → direction.beginning.from_zero ≡ true → AreCutAsAsked direction.beginning.asks direction.performed direction.queued direction.read
+    → direction.queues.queue.is_interleaved ≡ true → direction.beginning.from_zero ≡ true → AreCutAsAsked direction.beginning.has_all direction.beginning.asks direction.performed direction.queued direction.read
 directions_cut_as_asked options first size direction run small little few interleaved from =
     let d = directions_deliver_by_epoch options first size direction run small little few interleaved from in
     let a = run_asks options first size direction small few run in
@@ -254,6 +189,8 @@ directions_cut_as_asked options first size direction run small little few interl
             place = c.cut.place;
             asked = c.asked;
             separates = subst (λ (k : ℕ). Separates direction.queued id k c.cut.place d.ordered.delivered.places) c.index_is (d.epochs id c.cut c.has);
+            no_gap = λ whole. whole_before direction.beginning direction.queued id c.cut.place d.ordered.delivered.places whole (d.no_gaps id c.cut c.has);
           }
           );
+      no_gap = λ whole id. whole_before direction.beginning direction.queued id (length direction.queued) d.ordered.delivered.places whole (d.no_gap id);
     }

@@ -2,38 +2,44 @@
 use Rattle.std.proofs.Common.{◌≡◌, ℕ, Bool, true, false, ◌<◌, ◌≤◌, ◌%◌, ◌^◌, List, [], ◌++◌, length, length-append, sym, ◌∙◌, ap, arith, subst, inl, inr}
 use Rattle.dcsctp_delivery_directions.specs.sending.Log.{Slot, History, new_history}
 use Rattle.dcsctp_delivery_directions.specs.sending.Places.{at_place}
-use Rattle.dcsctp_delivery_directions.specs.directions.Directions.{Direction, DirectionStep}
+use Rattle.dcsctp_delivery_directions.specs.sending.Losing.{AllWaitOn}
+use Rattle.dcsctp_delivery_directions.specs.directions.Directions.{Beginning, Direction, DirectionStep}
 use Rattle.dcsctp_delivery_directions.proofs.directions.Cleared.{not_new}
 use Rattle.dcsctp_delivery_directions.proofs.directions.Continuing.{NamedAreOut, EndsNone, Continues}
+use Rattle.dcsctp_delivery_directions.proofs.directions.Losing.{same_beginning}
 use Rattle.dcsctp_delivery_directions.proofs.directions.Standing.{Stands}
 use Rattle.dcsctp_delivery_directions.specs.order.Queue.{Cut}
 use Rattle.dcsctp_delivery_directions.specs.order.Reading.{ComeSince}
-use Rattle.dcsctp_delivery_directions.specs.order.Received.{none_quiet, none_gapless}
+use Rattle.dcsctp_delivery_directions.specs.order.Received.{none_quiet}
 use Rattle.dcsctp_delivery_directions.proofs.order.Directions.{Unended, step_keeps}
 use Rattle.dcsctp_delivery_directions.proofs.order.Quiet.{Arrives, arrives_later}
 use Rattle.dcsctp_delivery_directions.proofs.order.Steps.{arrives_on}
 use Rattle.dcsctp_delivery_directions.proofs.order.Unsent.{received_none}
 use Rattle.dcsctp_delivery_directions.specs.epochs.Sending.{EpochBounds, never_asked, is_open, SendsByEpoch}
+use Rattle.dcsctp_delivery_directions.specs.epochs.Cuts.{known_asks}
 use Rattle.dcsctp_delivery_directions.specs.epochs.Directions.{asked_after}
+use Rattle.dcsctp_delivery_directions.proofs.epochs.KeptRuns.{KeepsEpochs, keeps_new, keeps_further, goes_in_turn}
 use Rattle.dcsctp_delivery_directions.proofs.epochs.SendingRuns.{GoesByEpoch, begins_by_epoch, begins_known, goes_further, goes_continues}
-use Rattle.dcsctp_delivery_directions.proofs.epochs.Behind.{watch_of, none_free, AreBehind, asked_keeps, behind_later}
+use Rattle.dcsctp_delivery_directions.proofs.epochs.Behind.{watch_of, AreBehind, asked_keeps, behind_later}
 
 pub record DeliversSo (first : ℕ) (direction : Direction) (opened : ℕ → Bool) (asked : ℕ → EpochBounds) (cuts : ℕ → List Cut) : Type 0 where
   pub goes : GoesByEpoch first direction opened asked
+  pub keeps : KeepsEpochs first direction opened asked goes.stands
   pub named : NamedAreOut goes.stands.history direction.asking.out direction.queues.queue.streams
   pub unended : direction.queues.queue.is_interleaved ≡ true → Unended direction.asking
   pub zero : direction.queues.queue.is_interleaved ≡ true → direction.beginning.from_zero ≡ true → (id : ℕ) → goes.stands.history.floors id false % 2 ^ 32 ≡ 0
   pub behind : direction.queues.queue.is_interleaved ≡ true → AreBehind direction.queues.queue.streams asked cuts
   pub arrives : length goes.stands.history.log < 2 ^ 31 → direction.queues.queue.is_interleaved ≡ true → direction.beginning.from_zero ≡ true
-      → Arrives (watch_of cuts) first goes.stands.history direction.queued direction.read direction.tracker direction.reassembly direction.queues.queue.streams
+      → Arrives (watch_of (known_asks direction.beginning) cuts) first goes.stands.history direction.queued direction.read direction.tracker direction.reassembly direction.queues.queue.streams
 
 -- ---- an association begins
 
 pub delivers_new : (first : ℕ) (direction : Direction) (s : Stands first direction) (floors : ℕ → Bool → ℕ) → s.history ≡ new_history floors → direction.asking.out ≡ 0 → direction.asking.requests ≡ []
-    → (direction.beginning.from_zero ≡ true → (id : ℕ) → floors id false % 2 ^ 32 ≡ 0) → DeliversSo first direction (λ id. is_open id direction.queues.queue.streams) (λ id. never_asked) (λ id. [])
-delivers_new first direction s floors is none_out none_asked at_zero =
+    → (direction.beginning.from_zero ≡ true → (id : ℕ) → floors id false % 2 ^ 32 ≡ 0) → (direction.beginning.has_all ≡ true → (id : ℕ) → AllWaitOn id direction.queued direction.queues.queue.streams) → DeliversSo first direction (λ id. is_open id direction.queues.queue.streams) (λ id. never_asked) (λ id. [])
+delivers_new first direction s floors is none_out none_asked at_zero all =
     record {
       goes = record { stands = s; by_epoch = λ interleaved. begins_by_epoch first direction s floors is; known = λ interleaved. begins_known direction };
+      keeps = keeps_new first direction s floors is all;
       named = λ mark earlier has some. absurd (omega (arith, some, none_out));
       unended = λ interleaved unknown. inl none_asked;
       zero = λ interleaved from id. ap (λ (h : History). h.floors id false % 2 ^ 32) is ∙ at_zero from id;
@@ -45,7 +51,7 @@ delivers_new first direction s floors is none_out none_asked at_zero =
             were = a.were;
             once = a.once;
             quiet = none_quiet;
-            received = received_none direction.queued s.history (ap (λ (h : History). h.log) is) none_gapless first a.places direction.tracker direction.reassembly a.received;
+            received = received_none direction.queued s.history (ap (λ (h : History). h.log) is) (known_asks direction.beginning) first a.places direction.tracker direction.reassembly a.received;
             silent = λ id silent. absurd (cc);
           }
           );
@@ -73,7 +79,7 @@ module _ (first : ℕ) (old : Direction) (small : first < 2 ^ 32) (opened : ℕ 
   pub further : (direction : Direction) (few : length direction.queued < 2 ^ 64) (step : DirectionStep old direction) (cuts' : ℕ → List Cut) → EndsNone old direction step
       → (old.queues.queue.is_interleaved ≡ true → AreBehind old.queues.queue.streams asked cuts')
       → (length stands.history.log < 2 ^ 31 → old.queues.queue.is_interleaved ≡ true → old.beginning.from_zero ≡ true
-      → Arrives (watch_of cuts') first stands.history direction.queued direction.read direction.tracker direction.reassembly old.queues.queue.streams)
+      → Arrives (watch_of (known_asks old.beginning) cuts') first stands.history direction.queued direction.read direction.tracker direction.reassembly old.queues.queue.streams)
       → DeliversSo first direction opened (asked_after old direction step asked) cuts'
   further direction few step cuts' ends behind arrives =
       let g = goes_further first old small opened asked d.goes direction few step in
@@ -83,6 +89,7 @@ module _ (first : ℕ) (old : Direction) (small : first < 2 ^ 32) (opened : ℕ 
       λ interleaved. behind_later old.queues.queue.streams direction.queues.queue.streams asked (asked_after old direction step asked) cuts' c.stay (asked_keeps old direction step asked ends) (behind (sym k.kind ∙ interleaved)) in
       record {
         goes = g;
+        keeps = keeps_further first old small opened asked d.goes d.keeps direction few step;
         named = c.named d.named;
         unended = λ interleaved. k.unended (d.unended (sym k.kind ∙ interleaved));
         zero = λ interleaved from id. ap (λ (floors : ℕ → Bool → ℕ). floors id false % 2 ^ 32) c.floors ∙ d.zero (sym k.kind ∙ interleaved) (sym k.start ∙ from) id;
@@ -91,8 +98,9 @@ module _ (first : ℕ) (old : Direction) (small : first < 2 ^ 32) (opened : ℕ 
             let sizes : length g.stands.history.log ≡ length (c.more ++ stands.history.log) = ap (λ (l : List Slot). length l) c.log in
             let before : length stands.history.log < 2 ^ 31 = omega (arith, little, sizes, length-append c.more stands.history.log) in
             let was : old.queues.queue.is_interleaved ≡ true = sym k.kind ∙ interleaved in
-            arrives_later (watch_of cuts') first stands.history g.stands.history old.queues.queue.streams direction.queues.queue.streams old.asking.out direction.asking.out c direction.queued [] direction.read direction.tracker direction.reassembly
-            (arrives before was (sym k.start ∙ from)) (λ id loud. since_later direction g.stands (asked_after old direction step asked) cuts' old.asking.out direction.asking.out c (g.by_epoch interleaved) (after interleaved) id)
+            subst (λ (b : Beginning). Arrives (watch_of (known_asks b) cuts') first g.stands.history direction.queued direction.read direction.tracker direction.reassembly direction.queues.queue.streams) (sym (same_beginning old direction step))
+            (arrives_later (watch_of (known_asks old.beginning) cuts') first stands.history g.stands.history old.queues.queue.streams direction.queues.queue.streams old.asking.out direction.asking.out c direction.queued [] direction.read direction.tracker direction.reassembly
+            (arrives before was (sym k.start ∙ from)) (λ id loud. since_later direction g.stands (asked_after old direction step asked) cuts' old.asking.out direction.asking.out c (g.by_epoch interleaved) (after interleaved) id))
             );
       }
 
@@ -100,4 +108,4 @@ module _ (first : ℕ) (old : Direction) (small : first < 2 ^ 32) (opened : ℕ 
   pub further_same : (direction : Direction) (few : length direction.queued < 2 ^ 64) (step : DirectionStep old direction) → EndsNone old direction step → DeliversSo first direction opened (asked_after old direction step asked) cuts
   further_same direction few step ends =
       further direction few step cuts ends d.behind
-      (λ before interleaved from. arrives_on (watch_of cuts) first old small stands (none_free cuts stands.history.log) before interleaved direction step ends d.named (d.unended interleaved) (d.arrives before interleaved from))
+      (λ before interleaved from. arrives_on (watch_of (known_asks old.beginning) cuts) first old small stands (goes_in_turn first old small opened asked d.goes d.keeps interleaved) before interleaved direction step ends d.named (d.unended interleaved) (d.arrives before interleaved from))

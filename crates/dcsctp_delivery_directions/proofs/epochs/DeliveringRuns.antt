@@ -1,5 +1,5 @@
 -- With interleaving what is read of a stream is separated by its resets, as it was queued.
-use Rattle.std.proofs.Common.{◌≡◌, ℕ, Bool, true, false, ◌<◌, ◌≤◌, ◌%◌, ◌^◌, List, [], ◌++◌, length, refl, sym, ◌∙◌, ap, arith, subst, inl, inr}
+use Rattle.std.proofs.Common.{◌≡◌, ℕ, Bool, true, false, ◌<◌, ◌≤◌, ◌%◌, ◌^◌, List, [], ◌∷◌, ◌++◌, length, refl, sym, ◌∙◌, ap, arith, subst, inl, inr}
 use Rattle.std.specs.Prelude.{◌⊎◌, Option, None, Some, if◌then◌else◌}
 use Rattle.dcsctp_spec.specs.types.declared.options.Options.{Options}
 use Rattle.dcsctp_spec.specs.queues.Incoming.{stream_on}
@@ -9,6 +9,9 @@ use Rattle.dcsctp_delivery_directions.specs.sending.Numbers.{is_handed_out, stre
 use Rattle.dcsctp_delivery_directions.specs.sending.Queueing.{floors_raised}
 use Rattle.dcsctp_delivery_directions.proofs.sending.Chunks.{kinds_of}
 use Rattle.dcsctp_delivery_directions.proofs.sending.Counting.{told}
+use Rattle.dcsctp_delivery_directions.proofs.sending.Places.{at_below}
+use Rattle.dcsctp_delivery_directions.specs.sending.Places.{HasEntry}
+use Rattle.dcsctp_delivery_directions.proofs.receiving.Distinct.{has_left, has_right, has_either}
 use Rattle.dcsctp_delivery_directions.specs.receiving.Ready.{AreDistinct, WereQueued}
 use Rattle.dcsctp_delivery_directions.specs.directions.Directions.{Direction, assigned_count, Asking, all_ended, BeginsDirection, DirectionRun, begins, goes_on, starts, DirectionStep, queues, sets, prepares, commits, rolls_back, flushes, resends, resends_nothing, speaks, asks_again, renews, turns_aside, acknowledges, loses, receives, forwards, receives_interleaved, forwards_interleaved, tracks, defers, performs, performs_earlier, resets, takes}
 use Rattle.dcsctp_delivery_directions.proofs.directions.Continuing.{begun_history, started_history}
@@ -16,23 +19,25 @@ use Rattle.dcsctp_delivery_directions.proofs.directions.Directions.{begun_stands
 use Rattle.dcsctp_delivery_directions.proofs.directions.Standing.{Stands}
 use Rattle.dcsctp_delivery_directions.proofs.directions.Steps.{more_queued}
 use Rattle.dcsctp_delivery_directions.specs.order.Incoming.{IncomingOrdered}
-use Rattle.dcsctp_delivery_directions.specs.order.Queue.{Cut}
+use Rattle.dcsctp_delivery_directions.specs.order.Epochs.{SendsEpochsInTurn}
+use Rattle.dcsctp_delivery_directions.specs.order.Queue.{IsOrderedOn, ComeInOrder, Cut, AreSeparated, LeaveNoGapBefore}
 use Rattle.dcsctp_delivery_directions.specs.order.Reading.{CountsFromZero}
 use Rattle.dcsctp_delivery_directions.specs.order.Received.{ReassemblesInOrder, none_handled, some_handled}
 use Rattle.dcsctp_delivery_directions.proofs.order.Beginning.{waits_from}
 use Rattle.dcsctp_delivery_directions.proofs.order.Directions.{raised_zero}
 use Rattle.dcsctp_delivery_directions.proofs.order.Follows.{counts_from_zero}
-use Rattle.dcsctp_delivery_directions.proofs.order.Incoming.{separated_where, ordered_was_read}
+use Rattle.dcsctp_delivery_directions.proofs.order.Incoming.{quiet_where, separated_where, no_gap_where, ordered_was_read}
 use Rattle.dcsctp_delivery_directions.proofs.order.Quiet.{Arrives}
 use Rattle.dcsctp_delivery_directions.proofs.order.Separated.{front_separate}
 use Rattle.dcsctp_delivery_directions.proofs.order.Steps.{committing_arrives}
 use Rattle.dcsctp_delivery_directions.specs.epochs.Sending.{EpochBounds, newest_ended, asked_ended}
 use Rattle.dcsctp_delivery_directions.specs.epochs.Directions.{asked_after, asked_of, opened_of}
-use Rattle.dcsctp_delivery_directions.specs.epochs.Cuts.{cuts_after, cuts_of, AreDeliveredByEpoch}
+use Rattle.dcsctp_delivery_directions.specs.epochs.Cuts.{cuts_after, cuts_of, known_asks, AreDeliveredByEpoch}
+use Rattle.dcsctp_delivery_directions.proofs.epochs.KeptRuns.{keeps_further, goes_in_turn}
 use Rattle.dcsctp_delivery_directions.proofs.epochs.SendingRuns.{goes_further, goes_ends}
-use Rattle.dcsctp_delivery_directions.proofs.epochs.Behind.{watch_of, none_free, IsPending, AreBehind}
+use Rattle.dcsctp_delivery_directions.proofs.epochs.Behind.{watch_of, IsPending, AreBehind}
 use Rattle.dcsctp_delivery_directions.proofs.epochs.Delivering.{DeliversSo, delivers_new, further, further_same}
-use Rattle.dcsctp_delivery_directions.proofs.epochs.Performing.{added, added_behind, recut}
+use Rattle.dcsctp_delivery_directions.proofs.epochs.Performing.{added, added_behind, recut, sent_leaves}
 
 -- ---- a reset ends
 
@@ -66,6 +71,7 @@ module _ (first : ℕ) (old : Direction) (small : first < 2 ^ 32) (opened : ℕ 
   ends few go_on =
       record {
         goes = goes_further first old small opened asked d.goes _ few (commits go_on);
+        keeps = keeps_further first old small opened asked d.goes d.keeps _ few (commits go_on);
         named = λ mark earlier is some. absurd (omega (arith, some));
         unended = λ interleaved unknown. absurd (let clash : true ≡ false = sym (go_on interleaved).1 ∙ unknown in cc);
         zero = λ interleaved from id.
@@ -74,8 +80,8 @@ module _ (first : ℕ) (old : Direction) (small : first < 2 ^ 32) (opened : ℕ 
         behind = ended_behind;
         arrives = λ little interleaved from. (
             let before : length stands.history.log < 2 ^ 31 = subst (λ (h : History). length h.log < 2 ^ 31) (raises interleaved) little in
-            subst (λ (h : History). Arrives (watch_of cuts) first h old.queued old.read old.tracker old.reassembly (queue_committed old.queues.queue).streams) (sym (raises interleaved))
-            (committing_arrives (watch_of cuts) first old small stands (none_free cuts stands.history.log) before interleaved (go_on interleaved).0 (go_on interleaved).1 (d.zero interleaved from) (d.arrives before interleaved from))
+            subst (λ (h : History). Arrives (watch_of (known_asks old.beginning) cuts) first h old.queued old.read old.tracker old.reassembly (queue_committed old.queues.queue).streams) (sym (raises interleaved))
+            (committing_arrives (watch_of (known_asks old.beginning) cuts) first old small stands (goes_in_turn first old small opened asked d.goes d.keeps interleaved) before interleaved (go_on interleaved).0 (go_on interleaved).1 (d.zero interleaved from) (d.arrives before interleaved from))
             );
       }
     where
@@ -90,6 +96,7 @@ module _ (first : ℕ) (old : Direction) (small : first < 2 ^ 32) (opened : ℕ 
   delivers_on _ few (rolls_back unmixed) =
       record {
         goes = goes_further first old small opened asked d.goes _ few (rolls_back unmixed);
+        keeps = keeps_further first old small opened asked d.goes d.keeps _ few (rolls_back unmixed);
         named = λ mark earlier is some. absurd (omega (arith, some));
         unended = λ interleaved. absurd (let clash : true ≡ false = sym interleaved ∙ unmixed in cc);
         zero = λ interleaved. absurd (let clash : true ≡ false = sym interleaved ∙ unmixed in cc);
@@ -131,7 +138,7 @@ run_delivers options first size _ small few (begins direction b) =
     let w = waits_from direction.queued direction.queues.queue b.queues in
     let b' : BeginsDirection options first size direction = record b { queues = w.waits } in
     delivers_new first direction (begun_stands options first size direction small b') w.waits.floors (begun_history options first size direction small b') (ap (λ (a : Asking). a.out) b.asking) (ap (λ (a : Asking). a.requests) b.asking)
-    (λ from. w.zero (b.begun.zero from))
+    (λ from. w.zero (b.begun.zero from)) b.begun.whole
 run_delivers options first size _ small few (goes_on old direction run step) =
     delivers_on first old small (opened_of options first size old run) (asked_of options first size old run) (cuts_of options first size old run) (run_delivers options first size old small (omega (arith, few, more_queued old direction step)) run) direction few step
 run_delivers options first size _ small few (starts old queued below beginning run awaited fit waits idle begun) =
@@ -140,10 +147,27 @@ run_delivers options first size _ small few (starts old queued below beginning r
     let w = waits_from queued below.queue waits in
     let direction : Direction = record old { queued = queued; queues = below; beginning = beginning } in
     delivers_new first direction (started_stands first old queued below beginning d.goes.stands awaited small fit w.waits idle) w.waits.floors (started_history first old queued below beginning d.goes.stands awaited small fit w.waits idle)
-    (ap (λ (a : Asking). a.out) awaited.asking) (ap (λ (a : Asking). a.requests) awaited.asking) (λ from. w.zero (begun.zero from))
+    (ap (λ (a : Asking). a.out) awaited.asking) (ap (λ (a : Asking). a.requests) awaited.asking) (λ from. w.zero (begun.zero from)) begun.whole
+
+-- What was read is the front of what became ready.
+module _ (queued : List Message) (id : ℕ) where
+  across : (xs ys : List ℕ) (x y : ℕ) → ComeInOrder queued id (xs ++ ys) → HasEntry x xs → HasEntry y ys → IsOrderedOn queued id x → IsOrderedOn queued id y → x < y
+  across [] ys x y are has has' on on' = absurd has
+  across (z ∷ xs) ys x y are has has' on on' =
+      elim has [
+        | inl e ↦ subst (λ (k : ℕ). k < y) (sym e) (are.0 y (has_right y xs ys has') (subst (λ (k : ℕ). IsOrderedOn queued id k) e on) on')
+        | inr t ↦ across xs ys x y are.1 t has' on on'
+      ]
+
+before_front : (asks : ℕ → Bool) (queued : List Message) (id end : ℕ) (xs ys : List ℕ) → ComeInOrder queued id (xs ++ ys) → LeaveNoGapBefore asks queued id end (xs ++ ys) → LeaveNoGapBefore asks queued id end xs
+before_front asks queued id end xs ys are gap earlier later has on on' less below one free =
+    elim (has_either earlier xs ys (gap earlier later (has_left later xs ys has) on on' less below one free)) [
+      | inl l ↦ l
+      | inr r ↦ absurd (let more = across queued id xs ys later earlier are has r on on' in omega (arith, more, less))
+    ]
 
 pub directions_deliver_by_epoch : (options : Options) (first size : ℕ) (direction : Direction) (run : DirectionRun options first size direction) → first < 2 ^ 32 → assigned_count direction < 2 ^ 31 → length direction.queued < 2 ^ 64
-    → direction.queues.queue.is_interleaved ≡ true → direction.beginning.from_zero ≡ true → AreDeliveredByEpoch (cuts_of options first size direction run) direction.queued direction.read
+    → direction.queues.queue.is_interleaved ≡ true → direction.beginning.from_zero ≡ true → AreDeliveredByEpoch (known_asks direction.beginning) (cuts_of options first size direction run) direction.queued direction.read
 directions_deliver_by_epoch options first size direction run small little few interleaved from =
     let d = run_delivers options first size direction small few run in
     let s = d.goes.stands in
@@ -151,21 +175,32 @@ directions_deliver_by_epoch options first size direction run small little few in
     let low : length s.history.log < 2 ^ 31 = omega (arith, count, little) in
     let a = d.arrives low interleaved from in
     let counts = λ (id : ℕ). counts_from_zero direction.queued s.history id s.queues.cut (told s.history direction.queues.queue s.queues.numbers low) (kinds_of s.queues.numbers (sym interleaved)) (d.zero interleaved from id) in
-    go s a.quiet a.received.got a.places a.were a.once counts a.received.holds
+    go s a.quiet a.received.got a.places a.were a.once counts (goes_in_turn first direction small _ _ d.goes d.keeps interleaved) a.received.holds
   where
-    read : (s : Stands first direction) (quiet : ℕ → Bool) (got : List ℕ) (base : ℕ) (places : List ℕ) → WereQueued direction.queued places direction.read → AreDistinct places → ((id : ℕ) → CountsFromZero s.history id)
-        → IncomingOrdered (watch_of (cuts_of options first size direction run)) (sent_messages direction.queued s.history) quiet got base places direction.reassembly.incoming → AreDeliveredByEpoch (cuts_of options first size direction run) direction.queued direction.read
-    read s quiet got base places were once counts o =
+    read : (s : Stands first direction) (quiet : ℕ → Bool) (got : List ℕ) (base : ℕ) (places : List ℕ) → WereQueued direction.queued places direction.read → AreDistinct places → ((id : ℕ) → CountsFromZero s.history id) → ((id : ℕ) → SendsEpochsInTurn (known_asks direction.beginning id) direction.queued s.history id)
+        → IncomingOrdered (watch_of (known_asks direction.beginning) (cuts_of options first size direction run)) (sent_messages direction.queued s.history) quiet got base places direction.reassembly.incoming → AreDeliveredByEpoch (known_asks direction.beginning) (cuts_of options first size direction run) direction.queued direction.read
+    read s quiet got base places were once counts turns o =
         record {
           ordered = record {
             delivered = record { places = places; were_queued = were; once = once };
-            in_order = λ id. ordered_was_read (watch_of (cuts_of options first size direction run)) direction.queued s.history quiet got base places direction.reassembly.incoming id (counts id) o;
+            in_order = λ id. ordered_was_read (watch_of (known_asks direction.beginning) (cuts_of options first size direction run)) direction.queued s.history quiet got base places direction.reassembly.incoming id (counts id) o;
           };
-          epochs = λ id cut has. front_separate direction.queued id cut.index cut.place places o.holds.places
-              (separated_where (watch_of (cuts_of options first size direction run) id) direction.queued s.history (quiet id) id (places ++ o.holds.places) (o.holds.waits id) (stream_on id direction.reassembly.incoming.streams) (o.order id (counts id)) cut has).1;
+          epochs = λ id cut has. front_separate direction.queued id cut.index cut.place places o.holds.places (separated id cut has).separates;
+          no_gaps = λ id cut has. before_front (known_asks direction.beginning id) direction.queued id cut.place places o.holds.places (in_order id) (separated id cut has).no_gap;
+          no_gap = λ id. before_front (known_asks direction.beginning id) direction.queued id (length direction.queued) places o.holds.places (in_order id)
+              (sent_leaves (known_asks direction.beginning id) direction.queued s.history id (places ++ o.holds.places) s.queues.cut
+              (no_gap_where (watch_of (known_asks direction.beginning) (cuts_of options first size direction run) id) direction.queued s.history (quiet id) id (places ++ o.holds.places) (o.holds.waits id) (stream_on id direction.reassembly.incoming.streams) (counts id) (turns id) (o.order id (counts id)))
+              (length direction.queued) (λ n f at on. at_below f.place f.message direction.queued (s.queues.cut.pieces n f at).at));
         }
+      where
+        in_order : (id : ℕ) → ComeInOrder direction.queued id (places ++ o.holds.places)
+        in_order id = (quiet_where (watch_of (known_asks direction.beginning) (cuts_of options first size direction run) id) direction.queued s.history (quiet id) id (places ++ o.holds.places) (o.holds.waits id) (stream_on id direction.reassembly.incoming.streams) (o.order id (counts id))).in_order
 
-    go : (s : Stands first direction) (quiet : ℕ → Bool) (got places : List ℕ) → WereQueued direction.queued places direction.read → AreDistinct places → ((id : ℕ) → CountsFromZero s.history id)
-        → ReassemblesInOrder (watch_of (cuts_of options first size direction run)) (sent_messages direction.queued s.history) quiet first got places direction.reassembly.incoming → AreDeliveredByEpoch (cuts_of options first size direction run) direction.queued direction.read
-    go s quiet got places were once counts (none_handled none' last empty') = read s quiet [] 0 places were once counts (empty' 0)
-    go s quiet got places were once counts (some_handled base is holds) = read s quiet got base places were once counts holds
+        separated : (id : ℕ) → AreSeparated (known_asks direction.beginning id) direction.queued id (cuts_of options first size direction run id) (places ++ o.holds.places)
+        separated id =
+            separated_where (watch_of (known_asks direction.beginning) (cuts_of options first size direction run) id) direction.queued s.history (quiet id) id (places ++ o.holds.places) (o.holds.waits id) (stream_on id direction.reassembly.incoming.streams) (o.order id (counts id))
+
+    go : (s : Stands first direction) (quiet : ℕ → Bool) (got places : List ℕ) → WereQueued direction.queued places direction.read → AreDistinct places → ((id : ℕ) → CountsFromZero s.history id) → ((id : ℕ) → SendsEpochsInTurn (known_asks direction.beginning id) direction.queued s.history id)
+        → ReassemblesInOrder (watch_of (known_asks direction.beginning) (cuts_of options first size direction run)) (sent_messages direction.queued s.history) quiet first got places direction.reassembly.incoming → AreDeliveredByEpoch (known_asks direction.beginning) (cuts_of options first size direction run) direction.queued direction.read
+    go s quiet got places were once counts turns (none_handled none' last empty') = read s quiet [] 0 places were once counts turns (empty' 0)
+    go s quiet got places were once counts turns (some_handled base is holds) = read s quiet got base places were once counts turns holds

@@ -17,11 +17,11 @@ use Rattle.dcsctp_delivery_directions.proofs.epochs.Feeding.{unbegun_same}
 use Rattle.dcsctp_delivery_directions.proofs.epochs.Named.{IsUnmoved, unmoved}
 
 -- The stream is open again if it was handed out.
-data IsEndedAs (old new : Stream) : Type 0 where
+pub data IsEndedAs (old new : Stream) : Type 0 where
   ended : is_handed_out old.pause ≡ true → new.messages ≡ old.messages → new.pause ≡ Open → IsEndedAs old new
   still : is_handed_out old.pause ≡ false → IsUnmoved old new → IsEndedAs old new
 
-committing_named : (queue : SendQueueState) (id : ℕ) → IsEndedAs (stream_named id queue.streams) (stream_named id (queue_committed queue).streams)
+pub committing_named : (queue : SendQueueState) (id : ℕ) → IsEndedAs (stream_named id queue.streams) (stream_named id (queue_committed queue).streams)
 committing_named queue id =
     found_mapped IsEndedAs id (unused_stream 0 0 0) committed_stream (λ s. one_id s s.pause refl) (still refl (unmoved (unused_stream 0 0 0))) (λ s here. one s s.pause refl) queue.streams
   where

@@ -7,7 +7,7 @@ use Rattle.dcsctp_spec.specs.queues.Incoming.{stream_on}
 use Rattle.dcsctp_spec.specs.queues.IncomingStreams.{StreamModel}
 use Rattle.dcsctp_spec.specs.queues.OwnResets.{is_open_pause}
 use Rattle.dcsctp_spec.specs.queues.Reassembly.{ReassemblyState, names_stream, EndsDeferral}
-use Rattle.dcsctp_delivery_directions.specs.sending.Log.{Message, sent_messages}
+use Rattle.dcsctp_delivery_directions.specs.sending.Log.{Message, Piece, History, IsLogOfPieces, sent_messages}
 use Rattle.dcsctp_delivery_directions.specs.sending.Numbers.{is_handed_out, stream_named}
 use Rattle.dcsctp_delivery_directions.specs.sending.Places.{HasEntry, at_place}
 use Rattle.dcsctp_delivery_directions.specs.receiving.Clear.{IsOwn}
@@ -18,14 +18,23 @@ use Rattle.dcsctp_delivery_directions.proofs.directions.Performing.{newest_of}
 use Rattle.dcsctp_delivery_directions.proofs.directions.Standing.{Stands}
 use Rattle.dcsctp_delivery_directions.specs.order.Incoming.{IsOrderedOrReset, IncomingOrdered}
 use Rattle.dcsctp_delivery_directions.specs.order.Order.{IsBetweenResets}
-use Rattle.dcsctp_delivery_directions.specs.order.Queue.{Cut, Separates, AreSeparated}
+use Rattle.dcsctp_delivery_directions.specs.order.Epochs.{LeaveNoGapSent}
+use Rattle.dcsctp_delivery_directions.specs.order.Queue.{Cut, Separates, IsSeparated, AreSeparated, LeaveNoGapBefore}
 use Rattle.dcsctp_delivery_directions.specs.order.Received.{ReassemblesInOrder, none_handled, some_handled}
 use Rattle.dcsctp_delivery_directions.proofs.order.Quiet.{Arrives, performing_arrives, performed_quiet}
 use Rattle.dcsctp_delivery_directions.proofs.order.Separated.{all_separate}
 use Rattle.dcsctp_delivery_directions.specs.epochs.Sending.{EpochBounds, HaltsBefore, SendsByEpoch}
-use Rattle.dcsctp_delivery_directions.specs.epochs.Cuts.{cut_added, cuts_with}
-use Rattle.dcsctp_delivery_directions.proofs.epochs.Behind.{watch_of, none_free, IsPending, AreBehind, handed_shut}
+use Rattle.dcsctp_delivery_directions.specs.epochs.Cuts.{cut_added, cuts_with, known_asks}
+use Rattle.dcsctp_delivery_directions.proofs.epochs.KeptRuns.{goes_in_turn}
+use Rattle.dcsctp_delivery_directions.proofs.epochs.Behind.{watch_of, IsPending, AreBehind, handed_shut}
 use Rattle.dcsctp_delivery_directions.proofs.epochs.Delivering.{DeliversSo}
+
+-- Where nothing was sent that was queued at this place or later, none is left out before it.
+pub sent_leaves : (asks : ℕ → Bool) (queued : List Message) (history : History) (id : ℕ) (all : List ℕ) → IsLogOfPieces queued history.log → LeaveNoGapSent asks queued history id all → (bound : ℕ)
+    → ((n : ℕ) (f : Piece) → at_place n history.log ≡ Some (Some f) → f.message.stream ≡ id → f.place < bound) → LeaveNoGapBefore asks queued id bound all
+sent_leaves asks queued history id all cut whole bound below earlier later has on on' less before one free =
+    whole later has on earlier on' (free earlier (omega arith) (omega (arith, less, before)) on') less one
+    (λ n f at stream ordered from. free f.place from (below n f at stream) (record { message = f.message; at = (cut.pieces n f at).at; stream = stream; ordered = ordered }))
 
 module _ (first : ℕ) (old : Direction) (small : first < 2 ^ 32) (opened : ℕ → Bool) (asked : ℕ → EpochBounds) (cuts : ℕ → List Cut) (d : DeliversSo first old opened asked cuts) where
   abbrev stands : Stands first old
@@ -72,15 +81,15 @@ module _ (first : ℕ) (old : Direction) (small : first < 2 ^ 32) (opened : ℕ 
     were_length queued (p ∷ places) (c ∷ contents) were = ap suc (were_length queued places contents were.1)
 
     module _ (before : length stands.history.log < 2 ^ 31) (interleaved : old.queues.queue.is_interleaved ≡ true) (from : old.beginning.from_zero ≡ true) where
-      performed : Arrives (watch_of cuts) first stands.history old.queued old.read old.tracker new old.queues.queue.streams
+      performed : Arrives (watch_of (known_asks old.beginning) cuts) first stands.history old.queued old.read old.tracker new old.queues.queue.streams
       performed =
-          performing_arrives (watch_of cuts) first old small stands (none_free cuts stands.history.log) before interleaved newest earlier new asks (some_out interleaved) d.named reached own leaves (d.arrives before interleaved from)
+          performing_arrives (watch_of (known_asks old.beginning) cuts) first old small stands (goes_in_turn first old small opened asked d.goes d.keeps interleaved) before interleaved newest earlier new asks (some_out interleaved) d.named reached own leaves (d.arrives before interleaved from)
 
       -- the streams that it names are quiet then
       named_quiet : (id : ℕ) → names_stream newest.reset.streams id ≡ true → performed.quiet id ≡ true
       unfolding performed
       named_quiet id names =
-          performed_quiet (watch_of cuts) first old small stands (none_free cuts stands.history.log) before interleaved newest earlier new asks (some_out interleaved) d.named reached own leaves (d.arrives before interleaved from) id names
+          performed_quiet (watch_of (known_asks old.beginning) cuts) first old small stands (goes_in_turn first old small opened asked d.goes d.keeps interleaved) before interleaved newest earlier new asks (some_out interleaved) d.named reached own leaves (d.arrives before interleaved from) id names
 
       -- all that was sent on them was queued before it was asked for
       stops : (id place : ℕ) → names_stream newest.reset.streams id ≡ true → (asked id).newest ≡ Some place → HaltsBefore stands.history old.queues.queue id place
@@ -93,17 +102,17 @@ module _ (first : ℕ) (old : Direction) (small : first < 2 ^ 32) (opened : ℕ 
           go None same e = absurd (cc)
           go (Some other) same e = let one : other ≡ place = cc in subst (λ (k : ℕ). HaltsBefore stands.history old.queues.queue id k) one (e.stops shut)
 
-      recut_stream : (id : ℕ) (got all waits : List ℕ) (stream : StreamModel) → length all ≡ index → ((p : ℕ) → HasEntry p all → Spent stands.history.log got p) → IsOrderedOrReset (watch_of cuts id) (performed.quiet id) (sent_messages old.queued stands.history) id all waits stream
-          → IsOrderedOrReset (watch_of added id) (performed.quiet id) (sent_messages old.queued stands.history) id all waits stream
+      recut_stream : (id : ℕ) (got all waits : List ℕ) (stream : StreamModel) → length all ≡ index → ((p : ℕ) → HasEntry p all → Spent stands.history.log got p) → IsOrderedOrReset (watch_of (known_asks old.beginning) cuts id) (performed.quiet id) (sent_messages old.queued stands.history) id all waits stream
+          → IsOrderedOrReset (watch_of (known_asks old.beginning) added id) (performed.quiet id) (sent_messages old.queued stands.history) id all waits stream
       recut_stream id got all waits stream size spent ordered = go (names_stream newest.reset.streams id) refl (asked id).newest refl
         where
           go : (b : Bool) → names_stream newest.reset.streams id ≡ b → (o : Option ℕ) → (asked id).newest ≡ o
-              → IsOrderedOrReset (record { is_gapless = false; cuts = if b then cut_added index o (cuts id) else cuts id }) (performed.quiet id) (sent_messages old.queued stands.history) id all waits stream
+              → IsOrderedOrReset (record { asks = known_asks old.beginning id; cuts = if b then cut_added index o (cuts id) else cuts id }) (performed.quiet id) (sent_messages old.queued stands.history) id all waits stream
           go false names o is = ordered
           go true names None is = ordered
           go true names (Some place) is =
-              let both : IsBetweenResets old.queued stands.history id all × AreSeparated old.queued id (cuts id) all =
-              subst (λ (b : Bool). IsOrderedOrReset (watch_of cuts id) b (sent_messages old.queued stands.history) id all waits stream) (named_quiet id names) ordered in
+              let both : IsBetweenResets old.queued stands.history id all × AreSeparated (known_asks old.beginning id) old.queued id (cuts id) all × LeaveNoGapSent (known_asks old.beginning id) old.queued stands.history id all =
+              subst (λ (b : Bool). IsOrderedOrReset (watch_of (known_asks old.beginning) cuts id) b (sent_messages old.queued stands.history) id all waits stream) (named_quiet id names) ordered in
               let its = stops id place names is in
               let cut : Separates old.queued id index place all =
               subst (λ (k : ℕ). Separates old.queued id k place all) size
@@ -116,15 +125,17 @@ module _ (first : ℕ) (old : Direction) (small : first < 2 ^ 32) (opened : ℕ 
               let same = sent.is in
               omega (arith, low, same)
               ))) in
-              subst (λ (b : Bool). IsOrderedOrReset (record { is_gapless = false; cuts = record { index = index; place = place } ∷ cuts id }) b (sent_messages old.queued stands.history) id all waits stream) (sym (named_quiet id names)) (
+              subst (λ (b : Bool). IsOrderedOrReset (record { asks = known_asks old.beginning id; cuts = record { index = index; place = place } ∷ cuts id }) b (sent_messages old.queued stands.history) id all waits stream) (sym (named_quiet id names)) (
                 both.0,
                 λ c has. elim has [
-                  | inl e ↦ subst (λ (x : Cut). (x.index ≤ length all) × Separates old.queued id x.index x.place all) (sym e) (omega (arith, size), cut)
+                  | inl e ↦ subst (λ (x : Cut). IsSeparated (known_asks old.beginning id) old.queued id x all) (sym e)
+                      (record { within = omega (arith, size); separates = cut; no_gap = sent_leaves (known_asks old.beginning id) old.queued stands.history id all stands.queues.cut both.2 place its.sent })
                   | inr t ↦ both.1 c t
                 ],
+                both.2,
               )
 
-      recut_incoming : (got : List ℕ) (base : ℕ) → IncomingOrdered (watch_of cuts) (sent_messages old.queued stands.history) performed.quiet got base performed.places new.incoming → IncomingOrdered (watch_of added) (sent_messages old.queued stands.history) performed.quiet got base performed.places new.incoming
+      recut_incoming : (got : List ℕ) (base : ℕ) → IncomingOrdered (watch_of (known_asks old.beginning) cuts) (sent_messages old.queued stands.history) performed.quiet got base performed.places new.incoming → IncomingOrdered (watch_of (known_asks old.beginning) added) (sent_messages old.queued stands.history) performed.quiet got base performed.places new.incoming
       recut_incoming got base o =
           record {
             holds = o.holds;
@@ -133,12 +144,12 @@ module _ (first : ℕ) (old : Direction) (small : first < 2 ^ 32) (opened : ℕ 
                 ∙ (let one = were_length old.queued performed.places old.read performed.were in let two = were_length old.queued o.holds.places new.incoming.ready o.holds.were_queued in omega (arith, one, two))) o.holds.spent (o.order id counts);
           }
 
-      recut_reassembles : (got : List ℕ) → ReassemblesInOrder (watch_of cuts) (sent_messages old.queued stands.history) performed.quiet first got performed.places new.incoming
-          → ReassemblesInOrder (watch_of added) (sent_messages old.queued stands.history) performed.quiet first got performed.places new.incoming
+      recut_reassembles : (got : List ℕ) → ReassemblesInOrder (watch_of (known_asks old.beginning) cuts) (sent_messages old.queued stands.history) performed.quiet first got performed.places new.incoming
+          → ReassemblesInOrder (watch_of (known_asks old.beginning) added) (sent_messages old.queued stands.history) performed.quiet first got performed.places new.incoming
       recut_reassembles got (none_handled none last empty) = none_handled none last (λ base. recut_incoming [] base (empty base))
       recut_reassembles got (some_handled base is holds) = some_handled base is (recut_incoming got base holds)
 
-      pub recut : Arrives (watch_of added) first stands.history old.queued old.read old.tracker new old.queues.queue.streams
+      pub recut : Arrives (watch_of (known_asks old.beginning) added) first stands.history old.queued old.read old.tracker new old.queues.queue.streams
       recut =
           let r = performed.received in
           record {

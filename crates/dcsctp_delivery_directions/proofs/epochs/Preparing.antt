@@ -51,7 +51,7 @@ named_changed id f (s ∷ l) ids used =
     ]
 
 -- What becomes of the stream: it is paused, with the message under way alone, or nothing changes.
-data IsPreparedAs (named : Bool) (old new : Stream) : Type 0 where
+pub data IsPreparedAs (named : Bool) (old new : Stream) : Type 0 where
   paused : (named && is_open_pause old.pause) ≡ true → new.messages ≡ take (count_under_way old) old.messages → new.under_way ≡ old.under_way → new.pause ≡ Pausing → IsPreparedAs named old new
   left : (named && is_open_pause old.pause) ≡ false → IsUnmoved old new → IsPreparedAs named old new
 
@@ -133,7 +133,7 @@ prepared_then named old between new (paused is messages way pause) two = again t
     again (paused is' messages' way' pause') =
         absurd (let no : false ≡ true = sym (ap (λ (p : Pause). named && is_open_pause p) pause ∙ and_false named) ∙ is' in cc)
 
-preparing_named : (ids : List ℕ) (queue : SendQueueState) (id : ℕ) → IsPreparedAs (is_named ids id) (stream_named id queue.streams) (stream_named id (prepared_all ids queue).streams)
+pub preparing_named : (ids : List ℕ) (queue : SendQueueState) (id : ℕ) → IsPreparedAs (is_named ids id) (stream_named id queue.streams) (stream_named id (prepared_all ids queue).streams)
 preparing_named [] queue id = left refl (unmoved (stream_named id queue.streams))
 preparing_named (other ∷ ids) queue id =
     let rest : IsPreparedAs (is_named ids id) (stream_named id (queue_with_prepared other queue).streams) (stream_named id (prepared_all (other ∷ ids) queue).streams) = preparing_named ids (queue_with_prepared other queue) id in
@@ -163,7 +163,7 @@ take_has zero l w has = absurd has
 take_has (suc k) [] w has = absurd has
 take_has (suc k) (v ∷ l) w has = elim has [ inl e ↦ inl e | inr t ↦ inr (take_has k l w t) ]
 
-nothing_left : (a : ℕ) (u : Option UnderWay) (l : List Waiting) → AllFrom a (drop (if is_some u then 1 else 0) (take (if is_some u then 1 else 0) l))
+pub nothing_left : (a : ℕ) (u : Option UnderWay) (l : List Waiting) → AllFrom a (drop (if is_some u then 1 else 0) (take (if is_some u then 1 else 0) l))
 nothing_left a (Some u) [] = tt
 nothing_left a (Some u) (w ∷ l) = tt
 nothing_left a None l = tt

@@ -212,6 +212,11 @@ goes_further first old small opened asked g direction few step =
       known = λ interleaved id. stepped_known first old small g.stands asked id (λ was. g.by_epoch was id) (opened id) (λ was. g.known was id) direction step interleaved;
     }
 
+pub goes_stands : (first : ℕ) (old : Direction) (small : first < 2 ^ 32) (opened : ℕ → Bool) (asked : ℕ → EpochBounds) (g : GoesByEpoch first old opened asked) (direction : Direction) (few : length direction.queued < 2 ^ 64) (step : DirectionStep old direction)
+    → (goes_further first old small opened asked g direction few step).stands ≡ stepped first old small g.stands direction few step
+unfolding goes_further
+goes_stands first old small opened asked g direction few step = refl
+
 -- the history of it
 pub goes_continues : (first : ℕ) (old : Direction) (small : first < 2 ^ 32) (opened : ℕ → Bool) (asked : ℕ → EpochBounds) (g : GoesByEpoch first old opened asked) (direction : Direction) (few : length direction.queued < 2 ^ 64) (step : DirectionStep old direction) → EndsNone old direction step
     → Continues g.stands.history (goes_further first old small opened asked g direction few step).stands.history old.queues.queue.streams direction.queues.queue.streams old.asking.out direction.asking.out

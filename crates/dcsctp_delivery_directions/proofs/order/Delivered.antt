@@ -1,5 +1,5 @@
 -- What was read is in order, and without gaps.
-use Rattle.std.proofs.Common.{◌≡◌, ℕ, Bool, true, false, ◌<◌, List, [], ◌∷◌, ◌++◌, refl, sym, subst, arith, inl, inr}
+use Rattle.std.proofs.Common.{◌≡◌, ℕ, Bool, false, ◌<◌, List, [], ◌∷◌, ◌++◌, sym, subst, arith, inl, inr}
 use Rattle.dcsctp_spec_lemmas.specs.types.queues.Messages.{MessageContent}
 use Rattle.dcsctp_spec_lemmas.specs.spec.queues.Incoming.{IncomingModel, stream_on}
 use Rattle.dcsctp_delivery_directions.specs.sending.Places.{HasEntry}
@@ -7,11 +7,13 @@ use Rattle.dcsctp_delivery_directions.specs.sending.Log.{Message, History, sent_
 use Rattle.dcsctp_delivery_directions.specs.receiving.Ready.{AreDistinct, WereQueued}
 use Rattle.dcsctp_delivery_directions.proofs.receiving.Distinct.{has_left, has_right, has_either}
 use Rattle.dcsctp_delivery_directions.specs.order.Queue.{IsOrderedOn, ComeInOrder, LeaveNoGap}
-use Rattle.dcsctp_delivery_directions.specs.order.Reading.{CountsFromZero, Watch, uncut}
+use Rattle.dcsctp_delivery_directions.specs.order.Reading.{CountsFromZero, Watch, uncut, any_asked}
+use Rattle.dcsctp_delivery_directions.specs.order.Epochs.{AreSentUnlimited}
 use Rattle.dcsctp_delivery_directions.specs.order.Gaps.{SendsInTurn}
 use Rattle.dcsctp_delivery_directions.specs.order.Incoming.{IncomingOrdered}
 use Rattle.dcsctp_delivery_directions.specs.order.Delivered.{AreDeliveredInOrder, AreDeliveredWithoutGaps}
 use Rattle.dcsctp_delivery_directions.proofs.order.Gaps.{filled_no_gap}
+use Rattle.dcsctp_delivery_directions.proofs.order.Epochs.{all_filled}
 use Rattle.dcsctp_delivery_directions.proofs.order.Incoming.{ordered_was_read}
 
 pub read_is_in_order : (watch : ℕ → Watch) (queued : List Message) (history : History) (quiet : ℕ → Bool) (got : List ℕ) (base : ℕ) (places : List ℕ) (incoming : IncomingModel) (read : List MessageContent)
@@ -42,17 +44,17 @@ module _ (queued : List Message) (id : ℕ) where
       ]
 
 pub read_is_front : (queued : List Message) (history : History) (got : List ℕ) (base : ℕ) (places : List ℕ) (incoming : IncomingModel) (read : List MessageContent)
-    → WereQueued queued places read → AreDistinct places → ((id : ℕ) → CountsFromZero history id) → ((id : ℕ) → SendsInTurn queued history id)
-    → IncomingOrdered (uncut (λ id. true)) (sent_messages queued history) (λ id. false) got base places incoming → AreDeliveredWithoutGaps queued read
-read_is_front queued history got base places incoming read were once counts sends o =
+    → WereQueued queued places read → AreDistinct places → ((id : ℕ) → CountsFromZero history id) → ((id : ℕ) → SendsInTurn queued history id) → ((id : ℕ) → AreSentUnlimited history id 0)
+    → IncomingOrdered (uncut any_asked) (sent_messages queued history) (λ id. false) got base places incoming → AreDeliveredWithoutGaps queued read
+read_is_front queued history got base places incoming read were once counts sends unlimited o =
     record {
       ordered = record {
         delivered = record { places = places; were_queued = were; once = once };
-        in_order = λ id. ordered_was_read (uncut (λ k. true)) queued history (λ k. false) got base places incoming id (counts id) o;
+        in_order = λ id. ordered_was_read (uncut any_asked) queued history (λ k. false) got base places incoming id (counts id) o;
       };
       no_gap = λ id. (
           let s = o.order id (counts id) in
           no_gap_front queued id places o.holds.places s.order.in_order
-          (filled_no_gap queued history id (places ++ o.holds.places) (o.holds.waits id) (stream_on id incoming.streams) (counts id) (sends id) s.order (s.filled refl))
+          (filled_no_gap queued history id (places ++ o.holds.places) (o.holds.waits id) (stream_on id incoming.streams) (counts id) (sends id) s.order (all_filled (any_asked id) queued history id (places ++ o.holds.places) (stream_on id incoming.streams).next (unlimited id) s.by_epoch))
           );
     }

@@ -24,9 +24,9 @@ use Rattle.dcsctp_delivery_directions.proofs.directions.Directions.{begun_stands
 use Rattle.dcsctp_delivery_directions.proofs.directions.Standing.{Stands}
 use Rattle.dcsctp_delivery_directions.proofs.directions.Steps.{stepped, more_queued}
 use Rattle.dcsctp_delivery_directions.specs.order.Delivered.{AreDeliveredInOrder}
-use Rattle.dcsctp_delivery_directions.specs.order.Reading.{CountsFromZero, uncut}
-use Rattle.dcsctp_delivery_directions.specs.order.Incoming.{NoneLimitedOn}
-use Rattle.dcsctp_delivery_directions.specs.order.Received.{none_quiet, none_gapless, ReassemblesInOrder, none_handled, some_handled}
+use Rattle.dcsctp_delivery_directions.specs.order.Reading.{CountsFromZero, uncut, any_asked}
+use Rattle.dcsctp_delivery_directions.specs.order.Epochs.{SendsEpochsInTurn}
+use Rattle.dcsctp_delivery_directions.specs.order.Received.{none_quiet, ReassemblesInOrder, none_handled, some_handled}
 use Rattle.dcsctp_delivery_directions.proofs.order.Beginning.{waits_from}
 use Rattle.dcsctp_delivery_directions.proofs.order.Delivered.{read_is_in_order}
 use Rattle.dcsctp_delivery_directions.proofs.order.Follows.{counts_from_zero}
@@ -48,11 +48,11 @@ record GoesInOrder (first : ℕ) (direction : Direction) : Type 0 where
   unended : direction.queues.queue.is_interleaved ≡ true → Unended direction.asking
   zero : direction.queues.queue.is_interleaved ≡ true → direction.beginning.from_zero ≡ true → (id : ℕ) → stands.history.floors id false % 2 ^ 32 ≡ 0
   arrives : length stands.history.log < 2 ^ 31 → direction.queues.queue.is_interleaved ≡ true → direction.beginning.from_zero ≡ true
-      → Arrives (uncut none_gapless) first stands.history direction.queued direction.read direction.tracker direction.reassembly direction.queues.queue.streams
+      → Arrives (uncut any_asked) first stands.history direction.queued direction.read direction.tracker direction.reassembly direction.queues.queue.streams
 
--- no stream is without gaps
-none_free : (log : List Slot) → NoneLimitedOn (uncut none_gapless) log
-none_free log n f at is = absurd (cc)
+-- Where a reset may be asked for at any time, each epoch is one message.
+pub asked_always : (queued : List Message) (history : History) (id : ℕ) → SendsEpochsInTurn (uncut any_asked id).asks queued history id
+asked_always queued history id earlier later mid on free sent from less one = absurd (let no : true ≡ false = one later less (omega arith) in cc)
 
 -- ---- an association begins
 
@@ -72,7 +72,7 @@ begins_so first direction s floors is none_out none_asked at_zero =
             were = a.were;
             once = a.once;
             quiet = none_quiet;
-            received = received_none direction.queued s.history (ap (λ (h : History). h.log) is) none_gapless first a.places direction.tracker direction.reassembly a.received;
+            received = received_none direction.queued s.history (ap (λ (h : History). h.log) is) any_asked first a.places direction.tracker direction.reassembly a.received;
             silent = λ id silent. absurd (cc);
           }
           );
@@ -135,8 +135,8 @@ goes_on_in_order first old small g direction few step ends =
           let sizes : length s.history.log ≡ length (c.more ++ g.stands.history.log) = ap (λ (l : List Slot). length l) c.log in
           let before : length g.stands.history.log < 2 ^ 31 = omega (arith, little, sizes, length-append c.more g.stands.history.log) in
           let was : old.queues.queue.is_interleaved ≡ true = sym k.kind ∙ interleaved in
-          arrives_later (uncut none_gapless) first g.stands.history s.history old.queues.queue.streams direction.queues.queue.streams old.asking.out direction.asking.out c direction.queued [] direction.read direction.tracker direction.reassembly
-          (arrives_on (uncut none_gapless) first old small g.stands (none_free g.stands.history.log) before was direction step ends g.named (g.unended was) (g.arrives before was (sym k.start ∙ from)))
+          arrives_later (uncut any_asked) first g.stands.history s.history old.queues.queue.streams direction.queues.queue.streams old.asking.out direction.asking.out c direction.queued [] direction.read direction.tracker direction.reassembly
+          (arrives_on (uncut any_asked) first old small g.stands (asked_always old.queued g.stands.history) before was direction step ends g.named (g.unended was) (g.arrives before was (sym k.start ∙ from)))
           (λ id loud since cut has. absurd has)
           );
     }
@@ -160,8 +160,8 @@ steps_in_order first old small g _ few (commits go_on) =
       arrives = λ little interleaved from. (
           let raises = ended_raises first old small g.stands few go_on interleaved in
           let before : length g.stands.history.log < 2 ^ 31 = subst (λ (h : History). length h.log < 2 ^ 31) raises little in
-          subst (λ (h : History). Arrives (uncut none_gapless) first h old.queued old.read old.tracker old.reassembly (queue_committed old.queues.queue).streams) (sym raises)
-          (committing_arrives (uncut none_gapless) first old small g.stands (none_free g.stands.history.log) before interleaved (go_on interleaved).0 (go_on interleaved).1 (g.zero interleaved from) (g.arrives before interleaved from))
+          subst (λ (h : History). Arrives (uncut any_asked) first h old.queued old.read old.tracker old.reassembly (queue_committed old.queues.queue).streams) (sym raises)
+          (committing_arrives (uncut any_asked) first old small g.stands (asked_always old.queued g.stands.history) before interleaved (go_on interleaved).0 (go_on interleaved).1 (g.zero interleaved from) (g.arrives before interleaved from))
           );
     }
 steps_in_order first old small g _ few (rolls_back unmixed) =
@@ -232,6 +232,6 @@ directions_deliver_in_order options first size direction run small little few in
     go s a.quiet a.received.got a.places a.were a.once counts a.received.holds
   where
     go : (s : Stands first direction) (quiet : ℕ → Bool) (got places : List ℕ) → WereQueued direction.queued places direction.read → AreDistinct places → ((id : ℕ) → CountsFromZero s.history id)
-        → ReassemblesInOrder (uncut none_gapless) (sent_messages direction.queued s.history) quiet first got places direction.reassembly.incoming → AreDeliveredInOrder direction.queued direction.read
-    go s quiet got places were once counts (none_handled none' last empty') = read_is_in_order (uncut none_gapless) direction.queued s.history quiet [] 0 places direction.reassembly.incoming direction.read were once counts (empty' 0)
-    go s quiet got places were once counts (some_handled base is holds) = read_is_in_order (uncut none_gapless) direction.queued s.history quiet got base places direction.reassembly.incoming direction.read were once counts holds
+        → ReassemblesInOrder (uncut any_asked) (sent_messages direction.queued s.history) quiet first got places direction.reassembly.incoming → AreDeliveredInOrder direction.queued direction.read
+    go s quiet got places were once counts (none_handled none' last empty') = read_is_in_order (uncut any_asked) direction.queued s.history quiet [] 0 places direction.reassembly.incoming direction.read were once counts (empty' 0)
+    go s quiet got places were once counts (some_handled base is holds) = read_is_in_order (uncut any_asked) direction.queued s.history quiet got base places direction.reassembly.incoming direction.read were once counts holds

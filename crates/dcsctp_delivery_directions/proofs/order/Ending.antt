@@ -13,7 +13,7 @@ use Rattle.dcsctp_delivery_directions.specs.receiving.Ready.{AreDistinct}
 use Rattle.dcsctp_delivery_directions.specs.receiving.Received.{kept_entries, SkipsWait, ForwardsWait, CountsFromBase, DefersData, Few}
 use Rattle.dcsctp_delivery_directions.proofs.receiving.Kept.{later_named}
 use Rattle.dcsctp_delivery_directions.proofs.receiving.Reassembled.{kept_last}
-use Rattle.dcsctp_delivery_directions.specs.order.Incoming.{NoneLimitedOn}
+use Rattle.dcsctp_delivery_directions.specs.order.Epochs.{SendsEpochsInTurn}
 use Rattle.dcsctp_delivery_directions.specs.order.Received.{ReassemblesInOrder, none_handled, some_handled, HasReceivedInOrder}
 use Rattle.dcsctp_delivery_directions.proofs.order.Incoming.{resetting_in_order}
 use Rattle.dcsctp_delivery_directions.proofs.order.Received.{loud_by, loud_entries, data_in_order, forward_in_order}
@@ -23,13 +23,13 @@ use Rattle.dcsctp_delivery_directions.specs.order.Reading.{Watch}
 abbrev pub quiet_with : (ℕ → Bool) → List ℕ → ℕ → Bool
 quiet_with quiet streams id = quiet id || names_stream streams id
 
-module _ (watch : ℕ → Watch) (queued : List Message) (history : History) (first : ℕ) (cut : IsLogOfPieces queued history.log) (told : IsUnambiguous history) (f : Few history first) (free : NoneLimitedOn watch history.log) (read : List ℕ) where
+module _ (watch : ℕ → Watch) (queued : List Message) (history : History) (first : ℕ) (cut : IsLogOfPieces queued history.log) (told : IsUnambiguous history) (f : Few history first) (turns : (id : ℕ) → SendsEpochsInTurn (watch id).asks queued history id) (read : List ℕ) where
   reset_in_order : (quiet : ℕ → Bool) (got streams : List ℕ) (old new : IncomingModel) → ReassemblesInOrder watch (sent_messages queued history) quiet first got read old → ResetsStreams streams old new
       → ReassemblesInOrder watch (sent_messages queued history) (quiet_with quiet streams) first got read new
   reset_in_order quiet got streams old new (some_handled base is holds) resets =
-      some_handled base (subst (λ (l : ℕ). CountsFromBase first base l) (sym (kept_last queued history first cut told f read streams old new resets)) is) (resetting_in_order watch queued history quiet got base read streams old new holds resets)
+      some_handled base (subst (λ (l : ℕ). CountsFromBase first base l) (sym (kept_last queued history first cut told f read streams old new resets)) is) (resetting_in_order watch queued history quiet got base read streams old new turns holds resets)
   reset_in_order quiet got streams old new (none_handled none last empty) resets =
-      none_handled none (kept_last queued history first cut told f read streams old new resets ∙ last) (λ base. resetting_in_order watch queued history quiet [] base read streams old new (empty base) resets)
+      none_handled none (kept_last queued history first cut told f read streams old new resets ∙ last) (λ base. resetting_in_order watch queued history quiet [] base read streams old new turns (empty base) resets)
 
   module _ (quiet : ℕ → Bool) where
     -- some more were handled
@@ -63,7 +63,7 @@ module _ (watch : ℕ → Watch) (queued : List Message) (history : History) (fi
         → ReassemblesInOrder watch (sent_messages queued history) quiet first got read old → SkipsThen skips old new → ReassemblesInOrder watch (sent_messages queued history) quiet first got read new
     skips_in_order got last_tsn None old new loud wait holds same = subst (λ (m : IncomingModel). ReassemblesInOrder watch (sent_messages queued history) quiet first got read m) (sym same) holds
     skips_in_order got last_tsn (Some skips) old new loud wait holds moves =
-        forward_in_order queued history first cut told f quiet read watch free got skips.tsn (kept_entries (Some skips)) old new wait.0 (later_named history first last_tsn (kept_entries (Some skips)) wait.1)
+        forward_in_order queued history first cut told f quiet read watch got skips.tsn (kept_entries (Some skips)) old new wait.0 (later_named history first last_tsn (kept_entries (Some skips)) wait.1)
         (loud_entries quiet (kept_entries (Some skips)) loud) holds moves
 
     forwards_in_order : (got : List ℕ) (deferral : Option DeferralModel) (old new : IncomingModel) → ((id : ℕ) → quiet id ≡ true → NoneSkips id (kept_entries (skips_of deferral))) → ForwardsWait history first deferral

@@ -15,7 +15,7 @@ use Rattle.dcsctp_delivery_directions.specs.order.Gaps.{SendsInTurn}
 pub new_filled : (history : History) (id : ℕ) → AreFilled history id [] (new_stream id).next
 new_filled history id number low less = absurd (omega (arith, low, less))
 
-in_row : (history : History) (id next end : ℕ) (places : List ℕ) (wholes : List WholeModel) → AreReadAs history id places wholes → FillRow next end wholes → (number : ℕ) → next ≤ number → number < end → HasNumber history id places number
+pub in_row : (history : History) (id next end : ℕ) (places : List ℕ) (wholes : List WholeModel) → AreReadAs history id places wholes → FillRow next end wholes → (number : ℕ) → next ≤ number → number < end → HasNumber history id places number
 in_row history id next end [] [] are row number low less = absurd (omega (arith, row, low, less))
 in_row history id next end [] (w ∷ wholes) are row number low less = absurd are
 in_row history id next end (p ∷ places) [] are row number low less = absurd are
@@ -44,7 +44,7 @@ rows_fill history id next end all more delivered are row filled number low less 
 -- Numbers of the stream follow the queue and tell its messages apart: then there is none.
 module _ (queued : List Message) (history : History) (id : ℕ) (follows : FollowsOn id history.log)
     (apart : (p q m n : ℕ) → IsSentAs history id p m → IsSentAs history id q n → m ≡ n → p ≡ q) where
-  lower : (earlier later mid : ℕ) → earlier < later → IsSentAs history id earlier mid → (other : ℕ) → IsSentAs history id later other → mid < other
+  pub lower : (earlier later mid : ℕ) → earlier < later → IsSentAs history id earlier mid → (other : ℕ) → IsSentAs history id later other → mid < other
   lower earlier later mid less one other two = elim (leb_tells other mid) [
     | inr e ↦ e.1
     | inl e ↦ elim (eqb_tells other mid) [
@@ -72,12 +72,13 @@ module _ (queued : List Message) (history : History) (id : ℕ) (follows : Follo
       let same : found.is.mid ≡ mid = (let counted = found.is.counted in omega (arith, counted, from)) in
       subst (λ (k : ℕ). HasEntry k all) (apart found.place earlier found.is.mid mid found.is.sent sent same) found.has
 
+-- Each number is of one message.
+pub one_place : (history : History) (id : ℕ) → CountsFromZero history id → (p q m n : ℕ) → IsSentAs history id p m → IsSentAs history id q n → m ≡ n → p ≡ q
+one_place history id counts p q m n one two same =
+    sym one.is
+    ∙ counts.apart one.offset two.offset one.piece two.piece one.at two.at (one.stream ∙ sym two.stream) (one.ordered ∙ sym two.ordered) (let a = one.under in let b = two.under in omega (arith, a, b, same))
+    ∙ two.is
+
 pub filled_no_gap : (queued : List Message) (history : History) (id : ℕ) (all waits : List ℕ) (stream : StreamModel) → CountsFromZero history id → SendsInTurn queued history id → StreamInOrder queued history id all waits stream
     → AreFilled history id all stream.next → LeaveNoGap queued id all
-filled_no_gap queued history id all waits stream counts = apart_no_gap queued history id counts.follows one_place all waits stream
-  where
-    one_place : (p q m n : ℕ) → IsSentAs history id p m → IsSentAs history id q n → m ≡ n → p ≡ q
-    one_place p q m n one two same =
-        sym one.is
-        ∙ counts.apart one.offset two.offset one.piece two.piece one.at two.at (one.stream ∙ sym two.stream) (one.ordered ∙ sym two.ordered) (let a = one.under in let b = two.under in omega (arith, a, b, same))
-        ∙ two.is
+filled_no_gap queued history id all waits stream counts = apart_no_gap queued history id counts.follows (one_place history id counts) all waits stream

@@ -14,17 +14,18 @@ use Rattle.dcsctp_delivery_directions.specs.receiving.Ready.{IsOfStream, unorder
 use Rattle.dcsctp_delivery_directions.proofs.receiving.Distinct.{has_right, appended, distinct_left}
 use Rattle.dcsctp_delivery_directions.proofs.receiving.Skipping.{rows_filter, new_rows, holds_renewed}
 use Rattle.dcsctp_delivery_directions.specs.order.Queue.{IsMessageOn, IsOrderedOn, ComeInOrder, AreSeparated}
-use Rattle.dcsctp_delivery_directions.specs.order.Order.{IsSentAs, AreReadAs, IsBetweenResets}
+use Rattle.dcsctp_delivery_directions.specs.order.Order.{IsSentAs, IsReadAs, AreReadAs, IsBetweenResets}
+use Rattle.dcsctp_delivery_directions.specs.order.Epochs.{AreSentUnlimited, LeavesNoGapTo, LeaveNoGapSent, AreReadByEpoch, SendsEpochsInTurn}
 use Rattle.dcsctp_delivery_directions.specs.order.Reading.{CountsFromZero, Watch, uncut, ComeSince}
 use Rattle.dcsctp_delivery_directions.specs.order.Incoming.{IsOrderedOrReset, HoldsOrdered, IncomingOrdered, ReadsInOrder, IsWithin, first_ready}
 use Rattle.dcsctp_delivery_directions.proofs.order.Order.{come_between, new_in_order}
-use Rattle.dcsctp_delivery_directions.proofs.order.Gaps.{new_filled}
-use Rattle.dcsctp_delivery_directions.proofs.order.Separated.{separated_queued}
+use Rattle.dcsctp_delivery_directions.proofs.order.Epochs.{new_by_epoch, epochs_leave_no_gap}
+use Rattle.dcsctp_delivery_directions.proofs.order.Separated.{separated_queued, ordered_before}
 
 -- ---- an association that was just begun
 
-pub beginning_in_order : (gapless : ℕ → Bool) (queued : List Message) (history : History) (quiet : ℕ → Bool) (base : ℕ) → IncomingOrdered (uncut gapless) (sent_messages queued history) quiet [] base [] nothing
-beginning_in_order gapless queued history quiet base =
+pub beginning_in_order : (asks : ℕ → ℕ → Bool) (queued : List Message) (history : History) (quiet : ℕ → Bool) (base : ℕ) → IncomingOrdered (uncut asks) (sent_messages queued history) quiet [] base [] nothing
+beginning_in_order asks queued history quiet base =
     record {
       holds = record {
         waits = λ id. [];
@@ -38,9 +39,9 @@ beginning_in_order gapless queued history quiet base =
       order = λ id counts. first id (quiet id);
     }
   where
-    first : (id : ℕ) (b : Bool) → IsOrderedOrReset (uncut gapless id) b (sent_messages queued history) id [] [] (new_stream id)
-    first id false = record { order = new_in_order queued history id; reach = record { from = omega arith; up_to = omega arith }; filled = λ is. new_filled history id; separated = λ cut has. absurd has; since = λ cut has. absurd has }
-    first id true = (record { in_order = tt; sent = λ place has on. absurd has }, λ cut has. absurd has)
+    first : (id : ℕ) (b : Bool) → IsOrderedOrReset (uncut asks id) b (sent_messages queued history) id [] [] (new_stream id)
+    first id false = record { order = new_in_order queued history id; reach = record { from = omega arith; up_to = omega arith }; by_epoch = new_by_epoch (asks id) queued history id; separated = λ cut has. absurd has; since = λ cut has. absurd has }
+    first id true = (record { in_order = tt; sent = λ place has on. absurd has }, (λ cut has. absurd has), (λ later has on. absurd has))
 
 -- ---- streams that are reset
 
@@ -48,37 +49,47 @@ pub quiet_where : (watch : Watch) (queued : List Message) (history : History) (b
 quiet_where watch queued history false id all waits stream o = come_between queued history id all waits stream o.order
 quiet_where watch queued history true id all waits stream between = between.0
 
-pub separated_where : (watch : Watch) (queued : List Message) (history : History) (b : Bool) (id : ℕ) (all waits : List ℕ) (stream : StreamModel) → IsOrderedOrReset watch b (sent_messages queued history) id all waits stream → AreSeparated queued id watch.cuts all
+pub separated_where : (watch : Watch) (queued : List Message) (history : History) (b : Bool) (id : ℕ) (all waits : List ℕ) (stream : StreamModel) → IsOrderedOrReset watch b (sent_messages queued history) id all waits stream → AreSeparated watch.asks queued id watch.cuts all
 separated_where watch queued history false id all waits stream o = o.separated
 separated_where watch queued history true id all waits stream between = between.1
 
+-- Where each epoch is sent in turn, none is left out of one.
+pub no_gap_where : (watch : Watch) (queued : List Message) (history : History) (b : Bool) (id : ℕ) (all waits : List ℕ) (stream : StreamModel) → CountsFromZero history id → SendsEpochsInTurn watch.asks queued history id
+    → IsOrderedOrReset watch b (sent_messages queued history) id all waits stream → LeaveNoGapSent watch.asks queued history id all
+no_gap_where watch queued history false id all waits stream counts turns o = epochs_leave_no_gap watch.asks queued history id all stream.next counts turns o.by_epoch
+no_gap_where watch queued history true id all waits stream counts turns between = between.2
+
 module _ (watch : ℕ → Watch) (queued : List Message) (history : History) (quiet : ℕ → Bool) (got : List ℕ) (base : ℕ) (read : List ℕ) where
-  renewed : (named : ℕ → Bool) (streams later : ℕ → StreamModel) (unordered others : List RunModel) (ready : List MessageContent) → ((id : ℕ) → later id ≡ (if named id then new_stream id else streams id))
+  renewed : ((id : ℕ) → SendsEpochsInTurn (watch id).asks queued history id) → (named : ℕ → Bool) (streams later : ℕ → StreamModel) (unordered others : List RunModel) (ready : List MessageContent) → ((id : ℕ) → later id ≡ (if named id then new_stream id else streams id))
       → AreRows history.log got (unordered_base base) IsOfStream others → HoldsOrdered watch (sent_messages queued history) quiet got base read (held_messages streams unordered ready)
       → HoldsOrdered watch (sent_messages queued history) (λ id. quiet id || named id) got base read (held_messages later others ready)
   unfolding holds_renewed
-  renewed named streams later unordered others ready are rows o =
+  renewed turns named streams later unordered others ready are rows o =
       record {
         holds = holds_renewed queued history got base read named streams later unordered others ready are rows o.holds;
         order = λ id counts. subst (λ (s : StreamModel). IsOrderedOrReset (watch id) (quiet id || named id) (sent_messages queued history) id (read ++ o.holds.places) (if named id then [] else o.holds.waits id) s) (sym (are id))
-            (left_order id (quiet id) (named id) (o.order id counts));
+            (left_order id counts (quiet id) (named id) (o.order id counts));
       }
     where
-      left_order : (id : ℕ) (was b : Bool) → IsOrderedOrReset (watch id) was (sent_messages queued history) id (read ++ o.holds.places) (o.holds.waits id) (streams id)
+      left_order : (id : ℕ) → CountsFromZero history id → (was b : Bool) → IsOrderedOrReset (watch id) was (sent_messages queued history) id (read ++ o.holds.places) (o.holds.waits id) (streams id)
           → IsOrderedOrReset (watch id) (was || b) (sent_messages queued history) id (read ++ o.holds.places) (if b then [] else o.holds.waits id) (if b then new_stream id else streams id)
-      left_order id true true between = between
-      left_order id true false between = between
-      left_order id false true ordered = (quiet_where (watch id) queued history false id (read ++ o.holds.places) (o.holds.waits id) (streams id) ordered, ordered.separated)
-      left_order id false false ordered = ordered
+      left_order id counts true true between = between
+      left_order id counts true false between = between
+      left_order id counts false true ordered = (
+        quiet_where (watch id) queued history false id (read ++ o.holds.places) (o.holds.waits id) (streams id) ordered,
+        ordered.separated,
+        epochs_leave_no_gap (watch id).asks queued history id (read ++ o.holds.places) (streams id).next counts (turns id) ordered.by_epoch,
+      )
+      left_order id counts false false ordered = ordered
 
-  pub resetting_in_order : (streams : List ℕ) (old new : IncomingModel) → IncomingOrdered watch (sent_messages queued history) quiet got base read old → ResetsStreams streams old new → IncomingOrdered watch (sent_messages queued history) (λ id. quiet id || names_stream streams id) got base read new
-  resetting_in_order [] old new o resets =
+  pub resetting_in_order : (streams : List ℕ) (old new : IncomingModel) → ((id : ℕ) → SendsEpochsInTurn (watch id).asks queued history id) → IncomingOrdered watch (sent_messages queued history) quiet got base read old → ResetsStreams streams old new → IncomingOrdered watch (sent_messages queued history) (λ id. quiet id || names_stream streams id) got base read new
+  resetting_in_order [] old new turns o resets =
       subst (λ (l : List MessageContent). HoldsOrdered watch (sent_messages queued history) (λ id. quiet id || true) got base read (held_messages (λ id. stream_on id new.streams) new.unordered l)) (sym resets.kept.ready)
-      (renewed (λ id. true) (λ id. stream_on id old.streams) (λ id. stream_on id new.streams) old.unordered new.unordered old.ready resets.streams
+      (renewed turns (λ id. true) (λ id. stream_on id old.streams) (λ id. stream_on id new.streams) old.unordered new.unordered old.ready resets.streams
       (subst (λ (l : List RunModel). AreRows history.log got (unordered_base base) IsOfStream l) (sym resets.unordered) tt) o)
-  resetting_in_order (reset ∷ others) old new o resets =
+  resetting_in_order (reset ∷ others) old new turns o resets =
       subst (λ (l : List MessageContent). HoldsOrdered watch (sent_messages queued history) (λ id. quiet id || is_named (reset ∷ others) id) got base read (held_messages (λ id. stream_on id new.streams) new.unordered l)) (sym resets.kept.ready)
-      (renewed (is_named (reset ∷ others)) (λ id. stream_on id old.streams) (λ id. stream_on id new.streams) old.unordered new.unordered old.ready resets.streams
+      (renewed turns (is_named (reset ∷ others)) (λ id. stream_on id old.streams) (λ id. stream_on id new.streams) old.unordered new.unordered old.ready resets.streams
       (subst (λ (l : List RunModel). AreRows history.log got (unordered_base base) IsOfStream l) (sym resets.unordered) (rows_filter queued history got base read (unordered_base base) IsOfStream (λ run. not (is_named (reset ∷ others) run.number)) old.unordered o.holds.rows)) o)
 
   -- ---- what the user reads
@@ -189,6 +200,31 @@ module _ (queued more : List Message) (history later : History) (id : ℕ) (with
   read_more (p ∷ places) [] are = absurd are
   read_more (p ∷ places) (w ∷ wholes) are = (record { mid = are.0.mid; sent = sent_more p are.0.mid are.0.sent; counted = (let counted = are.0.counted in omega (arith, counted, same_floor)) }, read_more places wholes are.1)
 
+  sent_unlimited_before : (from : ℕ) → AreSentUnlimited later id from → AreSentUnlimited history id from
+  sent_unlimited_before from are n f at = are n f (within.stays n (Some f) at)
+
+  pub whole_more : (asks : ℕ → Bool) (places : List ℕ) (contents : List MessageContent) → WereQueued queued places contents → (place : ℕ) → HasEntry place places → IsOrderedOn (more ++ queued) id place
+      → LeavesNoGapTo asks queued history id places place → LeavesNoGapTo asks (more ++ queued) later id places place
+  whole_more asks places contents were place has on whole earlier on' free less one unlimited =
+      let was = queued_so places contents were place has on in
+      whole earlier (ordered_before queued more id earlier place less (record { message = was.message; at = was.at; stream = was.stream }) on') free less one (sent_unlimited_before earlier unlimited)
+
+  read_so : (place number : ℕ) → IsReadAs history id place number → IsReadAs later id place number
+  read_so place number is = record { mid = is.mid; sent = sent_more place is.mid is.sent; counted = (let counted = is.counted in omega (arith, counted, same_floor)) }
+
+  pub by_epoch_more : (asks : ℕ → Bool) (next : ℕ) (places : List ℕ) (contents : List MessageContent) → WereQueued queued places contents → AreReadByEpoch asks queued history id places next → AreReadByEpoch asks (more ++ queued) later id places next
+  by_epoch_more asks next places contents were o =
+      record {
+        filled = λ number low less. elim (o.filled number low less) [
+          | inl found ↦ inl (record { place = found.place; has = found.has; is = read_so found.place number found.is })
+          | inr l ↦ inr (record { offset = l.offset; piece = l.piece; at = within.stays l.offset (Some l.piece) l.at; stream = l.stream; ordered = l.ordered; limited = l.limited; from = (let from = l.from in omega (arith, from, same_floor)) })
+        ];
+        since = λ place has on. elim (o.since place has (queued_so places contents were place has on)) [
+          | inl r ↦ inl (record { mid = r.mid; sent = sent_more place r.mid r.sent; from = (let from = r.from in omega (arith, from, same_floor)); below = (let below = r.below in omega (arith, below, same_floor)) })
+          | inr whole ↦ inr (whole_more asks places contents were place has on whole)
+        ];
+      }
+
 pub growing_in_order : (watch : Watch) (queued more : List Message) (history later : History) (quiet : Bool) (id : ℕ) (all waits : List ℕ) (contents : List MessageContent) (stream : StreamModel)
     → IsWithin history later → (quiet ≡ false → ComeSince history id watch.cuts → ComeSince later id watch.cuts) → WereQueued queued all contents → CountsFromZero later id → (CountsFromZero history id → IsOrderedOrReset watch quiet (sent_messages queued history) id all waits stream)
     → IsOrderedOrReset watch quiet (sent_messages (more ++ queued) later) id all waits stream
@@ -205,11 +241,8 @@ growing_in_order watch queued more history later false id all waits contents str
         ahead = o.order.ahead;
       };
       reach = o.reach;
-      filled = λ none number low less. (
-          let is = o.filled none number low less in
-          record { place = is.place; has = is.has; is = record { mid = is.is.mid; sent = sent_more queued more history later id within is.place is.is.mid is.is.sent; counted = (let counted = is.is.counted in let same = same_floor queued more history later id within in omega (arith, counted, same)) } }
-          );
-      separated = separated_queued queued (more ++ queued) id watch.cuts all (message_so queued more history later id within all contents were) o.separated;
+      by_epoch = by_epoch_more queued more history later id within watch.asks stream.next all contents were o.by_epoch;
+      separated = separated_queued watch.asks queued more id watch.cuts all (message_so queued more history later id within all contents were) o.separated;
       since = fresh refl o.since;
     }
 growing_in_order watch queued more history later true id all waits contents stream within fresh were counts ordered =
@@ -219,5 +252,6 @@ growing_in_order watch queued more history later true id all waits contents stre
         in_order = in_order_more queued more history later id within all contents were o.in_order;
         sent = λ place has on. (let (mid, sent) = o.sent place has (queued_so queued more history later id within all contents were place has on) in (mid, sent_more queued more history later id within place mid sent));
       },
-      separated_queued queued (more ++ queued) id watch.cuts all (message_so queued more history later id within all contents were) both.1,
+      separated_queued watch.asks queued more id watch.cuts all (message_so queued more history later id within all contents were) both.1,
+      λ after has on. whole_more queued more history later id within watch.asks all contents were after has on (both.2 after has (queued_so queued more history later id within all contents were after has on)),
     )

@@ -10,16 +10,17 @@ use Rattle.dcsctp_delivery_directions.specs.sending.Places.{HasEntry, at_place}
 use Rattle.dcsctp_delivery_directions.specs.sending.Log.{Message, History, sent_messages}
 use Rattle.dcsctp_delivery_directions.specs.receiving.Rows.{Spent, IsQueued, MakesQueued}
 use Rattle.dcsctp_delivery_directions.specs.receiving.Ready.{IsOn, AreDistinct, WasQueued, WereQueued, WaitQueued}
-use Rattle.dcsctp_delivery_directions.proofs.receiving.Distinct.{appended, has_left, has_right, distinct_with}
+use Rattle.dcsctp_delivery_directions.proofs.receiving.Distinct.{appended, has_either, has_left, has_right, distinct_with}
 use Rattle.dcsctp_delivery_directions.proofs.receiving.SpentRows.{of_message, IsOfMessage}
 use Rattle.dcsctp_delivery_directions.proofs.receiving.Waiting.{OfStream, both_queued, renamed, wait_spent, Split, split_due}
 use Rattle.dcsctp_delivery_directions.specs.order.Queue.{IsMessageOn, IsOrderedOn, Cut, AreSeparated}
 use Rattle.dcsctp_delivery_directions.specs.order.Rising.{AscendFrom, DeliversRow, IsAhead, ready_with_part}
 use Rattle.dcsctp_delivery_directions.specs.order.Order.{IsReadAs, IsReadBelow, AreReadAs, AreFilled}
+use Rattle.dcsctp_delivery_directions.specs.order.Epochs.{AreReadByEpoch}
 use Rattle.dcsctp_delivery_directions.specs.order.Reading.{CountsFromZero, IsInReach, OrderedStream, Watch}
 use Rattle.dcsctp_delivery_directions.specs.order.Incoming.{IsOrderedOrReset}
 use Rattle.dcsctp_delivery_directions.proofs.order.Rising.{parts_deliver_rows}
-use Rattle.dcsctp_delivery_directions.proofs.order.Gaps.{rows_fill}
+use Rattle.dcsctp_delivery_directions.proofs.order.Epochs.{others_by_epoch, row_by_epoch}
 use Rattle.dcsctp_delivery_directions.proofs.order.Order.{order_then, read_among, others_stay, others_between}
 use Rattle.dcsctp_delivery_directions.proofs.order.Reading.{numbers_are_fresh, parts_in_reach}
 use Rattle.dcsctp_delivery_directions.proofs.order.Separated.{separated_others, separated_more, read_since}
@@ -59,7 +60,7 @@ alike_ordered watch queued history id all waits old new next waiting o =
         ahead = subst (λ (k : ℕ). AscendFrom (k + 1) new.waiting) (sym next) (subst (λ (l : List WholeModel). AscendFrom (old.next + 1) l) (sym waiting) o.order.ahead);
       };
       reach = record { from = (let low = o.reach.from in omega (arith, low, next)); up_to = (let high = o.reach.up_to in omega (arith, high, next)) };
-      filled = λ none. subst (λ (k : ℕ). AreFilled history id all k) (sym next) (o.filled none);
+      by_epoch = subst (λ (k : ℕ). AreReadByEpoch watch.asks queued history id all k) (sym next) o.by_epoch;
       separated = o.separated;
       since = o.since;
     }
@@ -71,8 +72,15 @@ on_stream queued id place on = record { message = on.message; at = on.at; stream
 -- messages of other streams
 pub others_where : (watch : Watch) (queued : List Message) (history : History) (quiet : Bool) (id : ℕ) (all waits more : List ℕ) (stream : StreamModel) → ((place : ℕ) → HasEntry place more → IsMessageOn queued id place → ⊥)
     → IsOrderedOrReset watch quiet (sent_messages queued history) id all waits stream → IsOrderedOrReset watch quiet (sent_messages queued history) id (all ++ more) waits stream
-others_where watch queued history false id all waits more stream none o = record { order = others_stay queued history id all waits more stream (λ place has on. none place has (on_stream queued id place on)) o.order; reach = o.reach; filled = λ is. more_filled history id stream.next all more (o.filled is); separated = separated_others queued id watch.cuts all more none o.separated; since = o.since }
-others_where watch queued history true id all waits more stream none between = (others_between queued history id all more (λ place has on. none place has (on_stream queued id place on)) between.0, separated_others queued id watch.cuts all more none between.1)
+others_where watch queued history false id all waits more stream none o = record { order = others_stay queued history id all waits more stream (λ place has on. none place has (on_stream queued id place on)) o.order; reach = o.reach; by_epoch = others_by_epoch watch.asks queued history id stream.next all more (λ place has on. none place has (on_stream queued id place on)) o.by_epoch; separated = separated_others queued id watch.asks watch.cuts all more none o.separated; since = o.since }
+others_where watch queued history true id all waits more stream none between = (
+  others_between queued history id all more (λ place has on. none place has (on_stream queued id place on)) between.0,
+  separated_others queued id watch.asks watch.cuts all more none between.1,
+  λ later has on earlier on' free less one unlimited. elim (has_either later all more has) [
+    | inl old ↦ has_left earlier all more (between.2 later old on earlier on' free less one unlimited)
+    | inr new ↦ absurd (none later new (on_stream queued id later on))
+  ],
+)
 
 -- a place on the stream
 abbrev pub IsOnIt : List Message → ℕ → ℕ → Type 0
@@ -201,9 +209,9 @@ module _ (watch : Watch) (queued : List Message) (history : History) (got : List
                 order = order_then queued history id all waits (p ∷ split.front) split.back old new before after (whole ∷ due (next_after old.next whole) old.waiting) counts.follows (ordered counts).order (rises counts).rising
                     (subst (λ (k : ℕ). IsReadAs history id p k) (sym number) (reads counts), halves.0) (subst (λ (l : List WholeModel). AreReadAs history id split.back l) (sym left) halves.1);
                 reach = reach counts;
-                filled = λ none. rows_fill history id old.next new.next all (p ∷ split.front) (whole ∷ due (next_after old.next whole) old.waiting)
-                    (subst (λ (k : ℕ). IsReadAs history id p k) (sym number) (reads counts), halves.0) (rises counts).row ((ordered counts).filled none);
-                separated = separated_more queued id watch.cuts all (p ∷ split.front)
+                by_epoch = row_by_epoch watch.asks queued history id old.next new.next all (p ∷ split.front) (whole ∷ due (next_after old.next whole) old.waiting)
+                    (subst (λ (k : ℕ). IsReadAs history id p k) (sym number) (reads counts), halves.0) (rises counts).row (ordered counts).reach.from (ordered counts).by_epoch;
+                separated = separated_more queued id watch.asks watch.cuts all (p ∷ split.front)
                     (read_since history id watch.cuts (ordered counts).since old.next new.next (p ∷ split.front) (whole ∷ due (next_after old.next whole) old.waiting) (ordered counts).reach.from
                     (subst (λ (k : ℕ). IsReadAs history id p k) (sym number) (reads counts), halves.0) (rises counts).rising.rise) (ordered counts).separated;
                 since = (ordered counts).since;
@@ -223,8 +231,8 @@ module _ (watch : Watch) (queued : List Message) (history : History) (got : List
               (subst (λ (l : List WholeModel). AreReadAs history id (take among.at waits ++ p ∷ drop among.at waits) l) (sym among.waiting)
               (read_among history id p among.at whole waits old.waiting (subst (λ (k : ℕ). IsReadAs history id p k) (sym number) (reads counts)) (ordered counts).order.waiting));
           reach = reach counts;
-          filled = λ none. rows_fill history id old.next new.next all [] [] tt (rises counts).row ((ordered counts).filled none);
-          separated = subst (λ (l : List ℕ). AreSeparated queued id watch.cuts l) (sym (append-nil all)) (ordered counts).separated;
+          by_epoch = row_by_epoch watch.asks queued history id old.next new.next all [] [] tt (rises counts).row (ordered counts).reach.from (ordered counts).by_epoch;
+          separated = subst (λ (l : List ℕ). AreSeparated watch.asks queued id watch.cuts l) (sym (append-nil all)) (ordered counts).separated;
           since = (ordered counts).since;
         })
 
@@ -236,8 +244,8 @@ module _ (watch : Watch) (queued : List Message) (history : History) (got : List
           order = order_then queued history id all waits [] waits old new before after [] counts.follows (ordered counts).order (rises counts).rising tt
               (subst (λ (s : StreamModel). AreReadAs history id waits s.waiting) (sym does.0) (ordered counts).order.waiting);
           reach = reach counts;
-          filled = λ none. rows_fill history id old.next new.next all [] [] tt (rises counts).row ((ordered counts).filled none);
-          separated = subst (λ (l : List ℕ). AreSeparated queued id watch.cuts l) (sym (append-nil all)) (ordered counts).separated;
+          by_epoch = row_by_epoch watch.asks queued history id old.next new.next all [] [] tt (rises counts).row (ordered counts).reach.from (ordered counts).by_epoch;
+          separated = subst (λ (l : List ℕ). AreSeparated watch.asks queued id watch.cuts l) (sym (append-nil all)) (ordered counts).separated;
           since = (ordered counts).since;
         })
     by_outcome part_kept does of makes rises reach =
@@ -246,8 +254,8 @@ module _ (watch : Watch) (queued : List Message) (history : History) (got : List
           order = order_then queued history id all waits [] waits old new before after [] counts.follows (ordered counts).order (rises counts).rising tt
               (subst (λ (l : List WholeModel). AreReadAs history id waits l) (sym does.1) (ordered counts).order.waiting);
           reach = reach counts;
-          filled = λ none. rows_fill history id old.next new.next all [] [] tt (rises counts).row ((ordered counts).filled none);
-          separated = subst (λ (l : List ℕ). AreSeparated queued id watch.cuts l) (sym (append-nil all)) (ordered counts).separated;
+          by_epoch = row_by_epoch watch.asks queued history id old.next new.next all [] [] tt (rises counts).row (ordered counts).reach.from (ordered counts).by_epoch;
+          separated = subst (λ (l : List ℕ). AreSeparated watch.asks queued id watch.cuts l) (sym (append-nil all)) (ordered counts).separated;
           since = (ordered counts).since;
         })
     by_outcome (message_whole whole) does of makes rises reach = whole_left whole of (whole.number == old.next) does.ready does.waiting makes rises reach
@@ -283,8 +291,8 @@ module _ (watch : Watch) (queued : List Message) (history : History) (got : List
           (λ counts. record {
             order = others_stay queued history id all waits (p ∷ []) new (not_ordered counts) (ordered counts).order;
             reach = (ordered counts).reach;
-            filled = λ is. more_filled history id new.next all (p ∷ []) ((ordered counts).filled is);
-            separated = separated_more queued id watch.cuts all (p ∷ [])
+            by_epoch = others_by_epoch watch.asks queued history id new.next all (p ∷ []) (not_ordered counts) (ordered counts).by_epoch;
+            separated = separated_more queued id watch.asks watch.cuts all (p ∷ [])
                 (λ place h cut has. elim h [ inl e ↦ subst (λ (k : ℕ). cut.place ≤ k) (sym e) (since counts cut has) | inr t ↦ absurd t ]) (ordered counts).separated;
             since = (ordered counts).since;
           })

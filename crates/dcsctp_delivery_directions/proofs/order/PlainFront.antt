@@ -34,7 +34,7 @@ module _ (queued : List Message) (history : History) (cut : IsLogOfPieces queued
   plain_in_turn queue holds lost earlier later mid on sent less =
       let s = sent_from queued history cut id counts later mid sent in
       let before : earlier < s.piece.place = (let is = s.place_is in omega (arith, is, less)) in
-      let was = sent_before queued history.log queue cut holds id earlier s.offset lost s.piece on s.is.at s.is.stream before in (
+      let was = sent_before queued history.log queue cut holds id earlier s.offset (lost earlier on.message on.at on.stream) s.piece on s.is.at s.is.stream before in (
         turn_of_tsn id was.offset history.log - 1,
         subst (λ (k : ℕ). IsSentAs (with_turns history) id k (turn_of_tsn id was.offset history.log - 1)) was.is
             (sent_as queued history cut id counts was.offset was.piece (record { at = was.at; stream = was.stream; ordered = was.ordered })),

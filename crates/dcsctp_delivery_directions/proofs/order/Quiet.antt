@@ -29,7 +29,7 @@ use Rattle.dcsctp_delivery_directions.proofs.directions.Continuing.{IsOutFor, Na
 use Rattle.dcsctp_delivery_directions.proofs.directions.Performing.{IsNewest, newest_of, passed_before}
 use Rattle.dcsctp_delivery_directions.proofs.directions.Receiving.{known_log, known_few, known_kinds}
 use Rattle.dcsctp_delivery_directions.proofs.directions.Standing.{Stands}
-use Rattle.dcsctp_delivery_directions.specs.order.Incoming.{NoneLimitedOn}
+use Rattle.dcsctp_delivery_directions.specs.order.Epochs.{SendsEpochsInTurn}
 use Rattle.dcsctp_delivery_directions.specs.order.Received.{HasReceivedInOrder}
 use Rattle.dcsctp_delivery_directions.proofs.order.Ending.{quiet_with, ends_in_order}
 use Rattle.dcsctp_delivery_directions.proofs.order.Taken.{received_later}
@@ -104,7 +104,7 @@ named_new : (id : ℕ) (streams : List ℕ) (old between : IncomingModel) → na
 named_new id [] old between named resets = resets.streams id
 named_new id (one ∷ others) old between named resets = resets.streams id ∙ rw named refl
 
-module _ (watch : ℕ → Watch) (first : ℕ) (old : Direction) (small : first < 2 ^ 32) (s : Stands first old) (free : NoneLimitedOn watch s.history.log) (little : length s.history.log < 2 ^ 31) (interleaved : old.queues.queue.is_interleaved ≡ true)
+module _ (watch : ℕ → Watch) (first : ℕ) (old : Direction) (small : first < 2 ^ 32) (s : Stands first old) (turns : (id : ℕ) → SendsEpochsInTurn (watch id).asks old.queued s.history id) (little : length s.history.log < 2 ^ 31) (interleaved : old.queues.queue.is_interleaved ≡ true)
     (newest : BegunReset) (earlier : List BegunReset) (new : ReassemblyState) (asks : old.asking.requests ≡ newest ∷ earlier) (some : 0 < old.asking.out) (named : NamedAreOut s.history old.asking.out old.queues.queue.streams)
     (reached : is_reset_reached newest.reset old.tracker ≡ true) (own : IsOwn newest.reset old.reassembly.deferral) (leaves : EndsDeferral newest.reset.streams old.reassembly new) where
   abbrev m : IsNewest s.history.marks newest
@@ -151,7 +151,7 @@ module _ (watch : ℕ → Watch) (first : ℕ) (old : Direction) (small : first 
         were = a.were;
         once = a.once;
         quiet = quiet_with a.quiet newest.reset.streams;
-        received = ends_in_order watch old.queued s.history first s.queues.cut (known_log first old small s little) few free a.places a.quiet newest.reset.streams old.tracker old.reassembly new
+        received = ends_in_order watch old.queued s.history first s.queues.cut (known_log first old small s little) few turns a.places a.quiet newest.reset.streams old.tracker old.reassembly new
             (λ id is. elim (either_quiet (a.quiet id) (names_stream newest.reset.streams id) is) [ inl was ↦ (a.silent id was).clear.none | inr names ↦ no_data id (out id names) ])
             (λ id is. elim (either_quiet (a.quiet id) (names_stream newest.reset.streams id) is) [ inl was ↦ (a.silent id was).clear.kept | inr names ↦ no_skips id (out id names) ])
             all.forwards a.received leaves;

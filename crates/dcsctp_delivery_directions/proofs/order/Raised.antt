@@ -15,11 +15,13 @@ use Rattle.dcsctp_delivery_directions.specs.sending.Queueing.{floors_raised}
 use Rattle.dcsctp_delivery_directions.specs.receiving.Clear.{IsClear, IsOver, Unsent}
 use Rattle.dcsctp_delivery_directions.specs.receiving.Ready.{WaitQueued, HoldsIncoming}
 use Rattle.dcsctp_delivery_directions.proofs.receiving.Raising.{KeptOr, kept_or_clear, holds_keeps, defers_keeps}
-use Rattle.dcsctp_delivery_directions.specs.order.Order.{IsSentAs, AreReadAs}
+use Rattle.dcsctp_delivery_directions.specs.order.Order.{IsSentAs, IsReadAs, AreReadAs}
+use Rattle.dcsctp_delivery_directions.specs.order.Epochs.{SendsEpochsInTurn}
 use Rattle.dcsctp_delivery_directions.specs.order.Reading.{CountsFromZero, OrderedStream, Watch}
 use Rattle.dcsctp_delivery_directions.specs.order.Incoming.{IsOrderedOrReset, IncomingOrdered}
 use Rattle.dcsctp_delivery_directions.specs.order.Received.{none_quiet, ReassemblesInOrder, none_handled, some_handled, HasReceivedInOrder}
-use Rattle.dcsctp_delivery_directions.proofs.order.Incoming.{quiet_where, separated_where}
+use Rattle.dcsctp_delivery_directions.proofs.order.Incoming.{quiet_where, separated_where, no_gap_where}
+use Rattle.dcsctp_delivery_directions.proofs.order.Epochs.{whole_by_epoch}
 use Rattle.dcsctp_delivery_directions.proofs.order.Order.{resets_stay}
 use Rattle.dcsctp_delivery_directions.proofs.order.Received.{loud_by}
 use Rattle.dcsctp_delivery_directions.proofs.order.Unsent.{unsent_ordered}
@@ -49,6 +51,9 @@ module _ (queued : List Message) (history : History) (floors : ℕ → Bool → 
   sent_now : (place mid : ℕ) → IsSentAs history id place mid → IsSentAs now id place mid
   sent_now place mid sent = record { offset = sent.offset; piece = sent.piece; at = sent.at; is = sent.is; stream = sent.stream; ordered = sent.ordered; under = sent.under }
 
+  read_so : (place number : ℕ) → IsReadAs history id place number → IsReadAs now id place number
+  read_so place number is = record { mid = is.mid; sent = sent_now place is.mid is.sent; counted = (let counted = is.counted in omega (arith, counted, same)) }
+
   read_now : (places : List ℕ) (wholes : List WholeModel) → AreReadAs history id places wholes → AreReadAs now id places wholes
   read_now [] [] are = tt
   read_now [] (w ∷ wholes) are = absurd are
@@ -65,21 +70,23 @@ module _ (queued : List Message) (history : History) (floors : ℕ → Bool → 
           ahead = o.order.ahead;
         };
         reach = o.reach;
-        filled = λ is number low less. (
-            let has = o.filled is number low less in
-            record {
-              place = has.place;
-              has = has.has;
-              is = record { mid = has.is.mid; sent = sent_now has.place has.is.mid has.is.sent; counted = (let counted = has.is.counted in omega (arith, counted, same)) };
-            }
-            );
+        by_epoch = record {
+          filled = λ number low less. elim (o.by_epoch.filled number low less) [
+            | inl has ↦ inl (record { place = has.place; has = has.has; is = read_so has.place number has.is })
+            | inr l ↦ inr (record { offset = l.offset; piece = l.piece; at = l.at; stream = l.stream; ordered = l.ordered; limited = l.limited; from = (let from = l.from in omega (arith, from, same)) })
+          ];
+          since = λ later has on. elim (o.by_epoch.since later has on) [
+            | inl r ↦ inl (record { mid = r.mid; sent = sent_now later r.mid r.sent; from = (let from = r.from in omega (arith, from, same)); below = (let below = r.below in omega (arith, below, same)) })
+            | inr whole ↦ inr whole
+          ];
+        };
         separated = o.separated;
         since = λ cut has n f at on high. o.since cut has n f at on (subst (λ (k : ℕ). k ≤ f.mid) (ap (λ (k : ℕ). floors k f.message.is_unordered) on ∙ same_each f.message.is_unordered ∙ ap (λ (k : ℕ). history.floors k f.message.is_unordered) (sym on)) high);
       }
 
 -- ---- all streams
 
-module _ (watch : ℕ → Watch) (queued : List Message) (history : History) (streams : List Stream) (cut : IsLogOfPieces queued history.log) (kinds : AreOfKind true history.log) (counts : (id : ℕ) → CountsFromZero history id) (quiet : ℕ → Bool)
+module _ (watch : ℕ → Watch) (queued : List Message) (history : History) (streams : List Stream) (cut : IsLogOfPieces queued history.log) (kinds : AreOfKind true history.log) (counts : (id : ℕ) → CountsFromZero history id) (turns : (id : ℕ) → SendsEpochsInTurn (watch id).asks queued history id) (quiet : ℕ → Bool)
     (silent : (id : ℕ) → quiet id ≡ true → is_handed_out (stream_named id streams).pause ≡ true) (first cumulative : ℕ) (reassembly : ReassemblyState)
     (out : (id : ℕ) → is_handed_out (stream_named id streams).pause ≡ true → Unsent history.log id ⊎ (IsOver history first cumulative id × IsClear id reassembly))
     (none_current : (id : ℕ) → is_handed_out (stream_named id streams).pause ≡ true → (n : ℕ) (f : Piece) → at_place n history.log ≡ Some (Some f) → f.message.stream ≡ id → IsCurrent (floors_raised streams history) f → ⊥) where
@@ -121,7 +128,8 @@ module _ (watch : ℕ → Watch) (queued : List Message) (history : History) (st
           (record {
             order = resets_stay queued history id (read ++ o.holds.places) raised.floors (above id handed) between;
             reach = record { from = omega arith; up_to = omega arith };
-            filled = λ is number low less. absurd (omega (arith, low, less));
+            by_epoch = whole_by_epoch (watch id).asks queued raised id (read ++ o.holds.places)
+                (no_gap_where (watch id) queued history (quiet id) id (read ++ o.holds.places) (o.holds.waits id) (stream_on id reassembly.incoming.streams) (counts id) (turns id) (o.order id (counts id)));
             separated = separated_where (watch id) queued history (quiet id) id (read ++ o.holds.places) (o.holds.waits id) (stream_on id reassembly.incoming.streams) (o.order id (counts id));
             since = λ cut has n f at on current. absurd (none_current id handed n f at on current);
           }))

@@ -28,17 +28,22 @@ read_exact next floor mid low high zero_floor from below =
     let exact = near_exact (next - 2 ^ 32) (mid - floor) (omega arith) (omega arith) in
     ap (λ (k : ℕ). number_near k (mid % 2 ^ 32)) (sym here) ∙ ap (number_near (2 ^ 32 + (next - 2 ^ 32))) (sym there) ∙ exact
 
-pub mids_are_read : (history : History) (id offset : ℕ) (piece : Piece) (stream : StreamModel) → CountsFromZero history id → IsInReach stream → IsSince history id offset piece
-    → IsReadAs history id piece.place (number_near stream.next (piece.mid % 2 ^ 32))
-mids_are_read history id offset piece stream counts reach since =
-    let floor : ℕ = history.floors id false in
+-- Its number counts from the floor.
+pub mids_counted : (history : History) (id offset : ℕ) (piece : Piece) (stream : StreamModel) → CountsFromZero history id → IsInReach stream → IsSince history id offset piece
+    → piece.mid + 2 ^ 32 ≡ history.floors id false + number_near stream.next (piece.mid % 2 ^ 32)
+mids_counted history id offset piece stream counts reach since =
     let from : history.floors id false ≤ piece.mid = subst (λ (k : ℕ). history.floors k false ≤ piece.mid) since.stream (subst (λ (b : Bool). history.floors piece.message.stream b ≤ piece.mid) since.ordered since.current) in
     let below = counts.few offset piece since.at since.stream since.ordered in
     let exact = read_exact stream.next (history.floors id false) piece.mid reach.from reach.up_to counts.floor from below in
+    omega (arith, exact, from)
+
+pub mids_are_read : (history : History) (id offset : ℕ) (piece : Piece) (stream : StreamModel) → CountsFromZero history id → IsInReach stream → IsSince history id offset piece
+    → IsReadAs history id piece.place (number_near stream.next (piece.mid % 2 ^ 32))
+mids_are_read history id offset piece stream counts reach since =
     record {
       mid = piece.mid;
       sent = record { offset = offset; piece = piece; at = since.at; is = refl; stream = since.stream; ordered = since.ordered; under = refl };
-      counted = omega (arith, exact, from);
+      counted = mids_counted history id offset piece stream counts reach since;
     }
 
 -- ---- no message that waits has it

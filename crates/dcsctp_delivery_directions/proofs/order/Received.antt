@@ -28,7 +28,7 @@ use Rattle.dcsctp_delivery_directions.proofs.receiving.Kept.{all_left, deferred_
 use Rattle.dcsctp_delivery_directions.proofs.receiving.Reassembled.{first_number, first_base, first_near, number_read, few_behind, bears_of, waiting_data}
 use Rattle.dcsctp_delivery_directions.proofs.receiving.Taking.{nothing_passed}
 use Rattle.dcsctp_delivery_directions.proofs.receiving.Tracked.{new_is_new, passing_keeps, delayed_tracks, new_beyond, forward_beyond}
-use Rattle.dcsctp_delivery_directions.specs.order.Incoming.{IncomingOrdered, NoneIsQuiet, NoneLimitedOn}
+use Rattle.dcsctp_delivery_directions.specs.order.Incoming.{IncomingOrdered, NoneIsQuiet}
 use Rattle.dcsctp_delivery_directions.specs.order.Received.{ReassemblesInOrder, none_handled, some_handled, HasReceivedInOrder}
 use Rattle.dcsctp_delivery_directions.proofs.order.Ready.{ready_in_order}
 use Rattle.dcsctp_delivery_directions.proofs.order.Skipping.{skipping_in_order}
@@ -68,20 +68,20 @@ module _ (queued : List Message) (history : History) (first : ℕ) (cut : IsLogO
       (ready_in_order watch queued history quiet cut told got base tsn read chunk old new (bears_of history first base offset tsn (number_near old.last_tsn_number tsn) chunk c number) is_new loud
       (subst (λ (l : List ℕ). IncomingOrdered watch (sent_messages queued history) quiet l base read old) (sym none) (empty base)) takes)
 
-  pub forward_in_order : (watch : ℕ → Watch) → NoneLimitedOn watch history.log → (got : List ℕ) (tsn : ℕ) (entries : List SkippedTo) (old new : IncomingModel) → IsTsn history.log first tsn → AreNamed history entries → NoneIsQuiet quiet entries
+  pub forward_in_order : (watch : ℕ → Watch) → (got : List ℕ) (tsn : ℕ) (entries : List SkippedTo) (old new : IncomingModel) → IsTsn history.log first tsn → AreNamed history entries → NoneIsQuiet quiet entries
       → ReassemblesInOrder watch (sent_messages queued history) quiet first got read old → MovesOn tsn entries old new → ReassemblesInOrder watch (sent_messages queued history) quiet first got read new
-  forward_in_order watch free got tsn entries old new t names loud (some_handled base is holds) moves =
+  forward_in_order watch got tsn entries old new t names loud (some_handled base is holds) moves =
       let few : t.offset < 2 ^ 31 = omega (arith, f.few, t.below) in
       let number = number_read first base old.last_tsn_number t.offset tsn is few t.is in
       some_handled base (record { same = is.same; near = is.near; worked = t.offset; few = few; is = moves.last ∙ number })
-      (skipping_in_order watch queued history free quiet got base read tsn entries old new names loud holds moves)
-  forward_in_order watch free got tsn entries old new t names loud (none_handled none last empty) moves =
+      (skipping_in_order watch queued history quiet got base read tsn entries old new names loud holds moves)
+  forward_in_order watch got tsn entries old new t names loud (none_handled none last empty) moves =
       let few : t.offset < 2 ^ 31 = omega (arith, f.few, t.below) in
       let base : ℕ = number_near (2 ^ 32) ((first + t.offset) % 2 ^ 32) - t.offset in
       let up = first_number first t.offset f.small few in
       let number : number_near old.last_tsn_number tsn ≡ base + t.offset = ap (λ (l : ℕ). number_near l tsn) last ∙ ap (number_near (2 ^ 32)) t.is ∙ omega (arith, up) in
       some_handled base (record { same = first_base first t.offset f.small few; near = first_near first t.offset f.small few; worked = t.offset; few = few; is = moves.last ∙ number })
-      (skipping_in_order watch queued history free quiet got base read tsn entries old new names loud (subst (λ (l : List ℕ). IncomingOrdered watch (sent_messages queued history) quiet l base read old) (sym none) (empty base)) moves)
+      (skipping_in_order watch queued history quiet got base read tsn entries old new names loud (subst (λ (l : List ℕ). IncomingOrdered watch (sent_messages queued history) quiet l base read old) (sym none) (empty base)) moves)
 
 -- ---- the tracker
 
@@ -151,7 +151,7 @@ module _ (watch : ℕ → Watch) (queued : List Message) (history : History) (qu
 abbrev pub QuietAreOver : History → (ℕ → Bool) → ℕ → ℕ → Type 0
 QuietAreOver history quiet first cumulative = (id : ℕ) → quiet id ≡ true → IsOver history first cumulative id
 
-module _ (watch : ℕ → Watch) (queued : List Message) (history : History) (first : ℕ) (cut : IsLogOfPieces queued history.log) (told : IsUnambiguous history) (f : Few history first) (free : NoneLimitedOn watch history.log) (quiet : ℕ → Bool) (read : List ℕ) where
+module _ (watch : ℕ → Watch) (queued : List Message) (history : History) (first : ℕ) (cut : IsLogOfPieces queued history.log) (told : IsUnambiguous history) (f : Few history first) (quiet : ℕ → Bool) (read : List ℕ) where
   -- a chunk whose TSN is new
   added : (offset tsn : ℕ) (chunk : ChunkModel) (tracker now : TrackerState) (old new : ReassemblyState) → CarriesCurrent history first offset tsn chunk → (r : HasReceivedInOrder watch (sent_messages queued history) quiet first read tracker old)
       → Tracks first (length history.log) (offset ∷ r.taken) now → (HasEntry offset r.taken → ⊥) → quiet chunk.stream ≡ false → AddsData tsn chunk old new → HasReceivedInOrder watch (sent_messages queued history) quiet first read now new
@@ -287,12 +287,12 @@ module _ (watch : ℕ → Watch) (queued : List Message) (history : History) (fi
           let beside = skips.deferred is waits same in
           let other : SkippedTo → Bool = λ entry. not (names_stream waits.streams (skipped_stream entry)) in
           left
-          (forward_in_order queued history first cut told f quiet read watch free r.got tsn (entries_beside waits.streams entries) old.incoming new.incoming to.tsn_is (all_left (IsNamedEntry history) other entries named)
+          (forward_in_order queued history first cut told f quiet read watch r.got tsn (entries_beside waits.streams entries) old.incoming new.incoming to.tsn_is (all_left (IsNamedEntry history) other entries named)
           (all_left (λ entry. quiet (skipped_stream entry) ≡ false) other entries loud) r.holds beside.incoming)
           (subst (λ (d : Option DeferralModel). DefersData history first r.later (waiting_of d)) (sym beside.deferral) (subst (λ (d : Option DeferralModel). DefersData history first r.later (waiting_of d)) same r.defers))
       go false is =
           let moved = skips.moved is in
-          left (forward_in_order queued history first cut told f quiet read watch free r.got tsn entries old.incoming new.incoming to.tsn_is named loud r.holds moved.incoming)
+          left (forward_in_order queued history first cut told f quiet read watch r.got tsn entries old.incoming new.incoming to.tsn_is named loud r.holds moved.incoming)
           (subst (λ (d : Option DeferralModel). DefersData history first r.later (waiting_of d)) (sym moved.deferral) r.defers)
 
   gone_in_order : (tsn : ℕ) (entries : List SkippedTo) (old new : Transfer) → (t : IsTsn history.log first tsn) → SkipAll history (t.offset + 1) entries → AreOfKind true history.log → OthersArePast history first old.tracker.cumulative

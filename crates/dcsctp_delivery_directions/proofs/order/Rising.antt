@@ -24,7 +24,7 @@ row_joined : (from between end : ℕ) (wholes more : List WholeModel) → FillRo
 row_joined from between end [] more is rest = subst (λ (k : ℕ). FillRow k end more) (sym is) rest
 row_joined from between end (w ∷ wholes) more is rest = (is.0, row_joined (from + 1) between end wholes more is.1 rest)
 
-row_rises : (from end : ℕ) (wholes : List WholeModel) → FillRow from end wholes → Rise from end wholes
+pub row_rises : (from end : ℕ) (wholes : List WholeModel) → FillRow from end wholes → Rise from end wholes
 row_rises from end [] is = omega (arith, is)
 row_rises from end (w ∷ wholes) is = (omega (arith, is.0), subst (λ (k : ℕ). Rise (k + 1) end wholes) (sym is.0) (row_rises (from + 1) end wholes is.1))
 

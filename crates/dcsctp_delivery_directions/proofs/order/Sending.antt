@@ -18,6 +18,7 @@ use Rattle.dcsctp_delivery_directions.specs.order.Queue.{IsOrderedOn}
 use Rattle.dcsctp_delivery_directions.specs.order.Reading.{CountsFromZero}
 use Rattle.dcsctp_delivery_directions.specs.order.Gaps.{SendsInTurn}
 use Rattle.dcsctp_delivery_directions.specs.order.Sending.{WasSentOf, StillWaits, NoneLost, NoneExpires}
+use Rattle.dcsctp_delivery_directions.specs.sending.Losing.{IsKept}
 use Rattle.dcsctp_delivery_directions.specs.order.Streams.{NoneLostOn, CurrentOn}
 
 pub handing_loses_none : (queued : List Message) (history : History) (now max : ℕ) (old new : SendQueueState) (told_before told_after : List (Event (List ℕ))) (part : Fragment)
@@ -67,7 +68,7 @@ pub record IsSentOn (log : List Slot) (id place : ℕ) : Type 0 where
 -- A message of the stream that was queued before one that was sent was sent as well, since the queue hands them out in turn.
 module _ (queued : List Message) (log : List Slot) (queue : SendQueueState) (cut : IsLogOfPieces queued log)
     (holds : HoldsQueued queued log queue.streams)
-    (id earlier number : ℕ) (lost : NoneLostOn id queued log queue.streams) (piece : Piece) (on : IsOrderedOn queued id earlier) (at : at_place number log ≡ Some (Some piece)) (stream : piece.message.stream ≡ id) (less : earlier < piece.place) where
+    (id earlier number : ℕ) (kept : IsKept log queue.streams earlier) (piece : Piece) (on : IsOrderedOn queued id earlier) (at : at_place number log ≡ Some (Some piece)) (stream : piece.message.stream ≡ id) (less : earlier < piece.place) where
   its_stream : (waits : StillWaits queue.streams earlier) → (stream_at queue.streams waits.q).id ≡ id
   its_stream waits =
       let w = queued_of queued (stream_at queue.streams waits.q).id (stream_at queue.streams waits.q).messages waits.waiting (holds.wait waits.q) waits.has in
@@ -114,7 +115,7 @@ module _ (queued : List Message) (log : List Slot) (queue : SendQueueState) (cut
 
   pub sent_before : IsSentOn log id earlier
   sent_before =
-      elim (lost earlier on.message on.at on.stream) [
+      elim kept [
         | inl was ↦ was_sent was
         | inr waits ↦ was_sent (by_wait waits (stream_at queue.streams waits.q).under_way (holds.going waits.q) (holds.beyond waits.q number piece at (stream ∙ sym (its_stream waits))))
       ]
@@ -124,7 +125,7 @@ pub sends_in_turn_on : (queued : List Message) (history : History) (id : ℕ) (q
     → HoldsQueued queued history.log queue.streams → NoneLostOn id queued history.log queue.streams → SendsInTurn queued history id
 sends_in_turn_on queued history id queue counts current cut holds lost earlier later mid on sent less =
     let before : earlier < sent.piece.place = (let is = sent.is in omega (arith, is, less)) in
-    let was = sent_before queued history.log queue cut holds id earlier sent.offset lost sent.piece on sent.at sent.stream before in
+    let was = sent_before queued history.log queue cut holds id earlier sent.offset (lost earlier on.message on.at on.stream) sent.piece on sent.at sent.stream before in
     let low = current was.offset was.piece was.at was.stream (counts.kinds was.offset was.piece was.at) in (
       was.piece.mid,
       record { offset = was.offset; piece = was.piece; at = was.at; is = was.is; stream = was.stream; ordered = was.ordered; under = refl },

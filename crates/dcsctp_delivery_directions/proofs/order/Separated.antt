@@ -1,10 +1,14 @@
 -- Resets that were performed separate the messages of a stream, also once more become ready.
-use Rattle.std.proofs.Common.{ℕ, Bool, false, zero, suc, ◌<◌, ◌≤◌, ◌+◌, ◌^◌, List, [], ◌∷◌, ◌++◌, length, length-append, arith, refl, sym, subst, inl, inr}
+use Rattle.std.proofs.Common.{◌≡◌, ℕ, Bool, false, zero, suc, ◌<◌, ◌≤◌, ◌+◌, ◌^◌, List, [], ◌∷◌, ◌++◌, length, length-append, arith, refl, sym, ◌∙◌, ap, subst, inl, inr}
+use Rattle.std.specs.Prelude.{Some}
 use Rattle.dcsctp_spec_lemmas.specs.spec.queues.Runs.{WholeModel}
-use Rattle.dcsctp_delivery_directions.specs.sending.Places.{HasEntry}
+use Rattle.dcsctp_delivery_directions.specs.sending.Places.{HasEntry, at_place}
+use Rattle.dcsctp_delivery_directions.proofs.sending.Extended.{at_more}
+use Rattle.dcsctp_delivery_directions.proofs.sending.Places.{at_below, at_some}
+use Rattle.dcsctp_delivery_directions.proofs.receiving.Distinct.{has_left, has_either}
 use Rattle.dcsctp_delivery_directions.specs.sending.Log.{Message, History}
 use Rattle.dcsctp_delivery_directions.specs.sending.Numbers.{IsCurrent}
-use Rattle.dcsctp_delivery_directions.specs.order.Queue.{IsMessageOn, Cut, Separates, AreSeparated}
+use Rattle.dcsctp_delivery_directions.specs.order.Queue.{IsMessageOn, IsOrderedOn, Cut, Separates, AreSeparated}
 use Rattle.dcsctp_delivery_directions.specs.order.Rising.{Rise}
 use Rattle.dcsctp_delivery_directions.specs.order.Order.{AreReadAs}
 use Rattle.dcsctp_delivery_directions.specs.order.Reading.{ComeSince}
@@ -32,16 +36,30 @@ module _ (queued : List Message) (id : ℕ) where
   more_separate (suc index) bound (p ∷ all) more low each are = (are.0, more_separate index bound all more (omega (arith, low)) each are.1)
 
   -- messages of other streams
-  pub separated_others : (cuts : List Cut) (all more : List ℕ) → ((place : ℕ) → HasEntry place more → IsMessageOn queued id place → ⊥) → AreSeparated queued id cuts all → AreSeparated queued id cuts (all ++ more)
-  separated_others cuts all more none are cut has =
+  pub separated_others : (asks : ℕ → Bool) (cuts : List Cut) (all more : List ℕ) → ((place : ℕ) → HasEntry place more → IsMessageOn queued id place → ⊥) → AreSeparated asks queued id cuts all → AreSeparated asks queued id cuts (all ++ more)
+  separated_others asks cuts all more none are cut has =
       let s = are cut has in
-      ((let low = s.0 in omega (arith, low, length-append all more)), others_separate cut.index cut.place all more none s.1)
+      record {
+        within = (let low = s.within in omega (arith, low, length-append all more));
+        separates = others_separate cut.index cut.place all more none s.separates;
+        no_gap = λ earlier later h on on' less below one free. elim (has_either later all more h) [
+          | inl old ↦ has_left earlier all more (s.no_gap earlier later old on on' less below one free)
+          | inr new ↦ absurd (none later new (record { message = on.message; at = on.at; stream = on.stream }))
+        ];
+      }
 
   -- and such as were queued since
-  pub separated_more : (cuts : List Cut) (all more : List ℕ) → ((place : ℕ) → HasEntry place more → (cut : Cut) → HasEntry cut cuts → cut.place ≤ place) → AreSeparated queued id cuts all → AreSeparated queued id cuts (all ++ more)
-  separated_more cuts all more each are cut has =
+  pub separated_more : (asks : ℕ → Bool) (cuts : List Cut) (all more : List ℕ) → ((place : ℕ) → HasEntry place more → (cut : Cut) → HasEntry cut cuts → cut.place ≤ place) → AreSeparated asks queued id cuts all → AreSeparated asks queued id cuts (all ++ more)
+  separated_more asks cuts all more each are cut has =
       let s = are cut has in
-      ((let low = s.0 in omega (arith, low, length-append all more)), more_separate cut.index cut.place all more s.0 (λ place h. each place h cut has) s.1)
+      record {
+        within = (let low = s.within in omega (arith, low, length-append all more));
+        separates = more_separate cut.index cut.place all more s.within (λ place h. each place h cut has) s.separates;
+        no_gap = λ earlier later h on on' less below one free. elim (has_either later all more h) [
+          | inl old ↦ has_left earlier all more (s.no_gap earlier later old on on' less below one free)
+          | inr new ↦ absurd (let up = each later new cut has in omega (arith, up, below))
+        ];
+      }
 
   -- a reset that is performed when all of them were queued before it was asked for
   pub all_separate : (bound : ℕ) (all : List ℕ) → ((place : ℕ) → HasEntry place all → IsMessageOn queued id place → place < bound) → Separates queued id (length all) bound all
@@ -59,9 +77,37 @@ queued_separate queued later id index bound [] so are = tt
 queued_separate queued later id zero bound (p ∷ places) so are = (λ on. are.0 (so p (inl refl) on), queued_separate queued later id zero bound places (λ place has. so place (inr has)) are.1)
 queued_separate queued later id (suc index) bound (p ∷ places) so are = (λ on. are.0 (so p (inl refl) on), queued_separate queued later id index bound places (λ place has. so place (inr has)) are.1)
 
-pub separated_queued : (queued later : List Message) (id : ℕ) (cuts : List Cut) (places : List ℕ) → ((place : ℕ) → HasEntry place places → IsMessageOn later id place → IsMessageOn queued id place) → AreSeparated queued id cuts places
-    → AreSeparated later id cuts places
-separated_queued queued later id cuts places so are cut has = (let s = are cut has in (s.0, queued_separate queued later id cut.index cut.place places so s.1))
+-- What was queued before is where it was.
+pub at_before : {A : Type 0} (more log : List A) (n : ℕ) (x : A) → n < length log → at_place n (more ++ log) ≡ Some x → at_place n log ≡ Some x
+at_before more log n x less at =
+    let (y, old) = at_some n log less in
+    let both : Some y ≡ Some x = sym (at_more more log n y old) ∙ at in
+    old ∙ both
+
+-- A message that was queued before another that is in the older queue is in it too.
+abbrev pub ordered_before : (queued more : List Message) (id earlier later : ℕ) → earlier < later → IsMessageOn queued id later → (on : IsOrderedOn (more ++ queued) id earlier) → IsOrderedOn queued id earlier
+ordered_before queued more id earlier later less was on =
+    record { message = on.message; at = at_before more queued earlier on.message (let below = at_below later was.message queued was.at in omega (arith, below, less)) on.at; stream = on.stream; ordered = on.ordered }
+
+pub separated_queued : (asks : ℕ → Bool) (queued more : List Message) (id : ℕ) (cuts : List Cut) (places : List ℕ) → ((place : ℕ) → HasEntry place places → IsMessageOn (more ++ queued) id place → IsMessageOn queued id place) → AreSeparated asks queued id cuts places
+    → AreSeparated asks (more ++ queued) id cuts places
+separated_queued asks queued more id cuts places so are cut has =
+    let s = are cut has in
+    record {
+      within = s.within;
+      separates = queued_separate queued (more ++ queued) id cut.index cut.place places so s.separates;
+      no_gap = λ earlier later h on on' less below one free. (
+          let was = so later h (record { message = on.message; at = on.at; stream = on.stream }) in
+          s.no_gap earlier later h (ordered_was later was on) (ordered_before queued more id earlier later less was on') less below one
+          (λ place from to mine. free place from to (record { message = mine.message; at = at_more more queued place mine.message mine.at; stream = mine.stream; ordered = mine.ordered }))
+          );
+    }
+  where
+    ordered_was : (later : ℕ) → IsMessageOn queued id later → IsOrderedOn (more ++ queued) id later → IsOrderedOn queued id later
+    ordered_was later was on =
+        let both : Some was.message ≡ Some on.message = sym (at_more more queued later was.message was.at) ∙ on.at in
+        let same : was.message ≡ on.message = cc in
+        record { message = was.message; at = was.at; stream = was.stream; ordered = ap (λ (m : Message). m.is_unordered) same ∙ on.ordered }
 
 -- What becomes ready has numbers of since the last reset of the stream.
 pub read_since : (history : History) (id : ℕ) (cuts : List Cut) → ComeSince history id cuts → (from end : ℕ) (places : List ℕ) (wholes : List WholeModel) → 2 ^ 32 ≤ from → AreReadAs history id places wholes → Rise from end wholes

@@ -1,5 +1,5 @@
 -- What an I-FORWARD-TSN skips leaves streams in order.
-use Rattle.std.proofs.Common.{◌≡◌, ◌≢◌, ◌==◌, ℕ, Bool, true, false, List, [], ◌∷◌, ◌++◌, map, refl, sym, ◌∙◌, ap, subst, inl, inr}
+use Rattle.std.proofs.Common.{◌≡◌, ◌≢◌, ◌==◌, ℕ, Bool, true, false, ◌<◌, ◌≤◌, ◌+◌, ◌^◌, List, [], ◌∷◌, ◌++◌, map, refl, sym, ◌∙◌, ap, arith, subst, inl, inr}
 use Rattle.std.specs.Prelude.{nat_le, not, if◌then◌else◌}
 use Rattle.std.specs.List.{filter}
 use Rattle.std.proofs.lemmas.List.{append-nil}
@@ -9,7 +9,7 @@ use Rattle.dcsctp_spec_lemmas.specs.types.declared.arrivals.SkippedTo.{SkippedTo
 use Rattle.dcsctp_spec_lemmas.specs.types.declared.arrivals.SkippedTo.TheVariants.{Ssn, Mid}
 use Rattle.dcsctp_spec_lemmas.specs.spec.queues.Numbers.{number_near, short_number_near}
 use Rattle.dcsctp_spec_lemmas.specs.spec.queues.Runs.{RunModel, WholeModel, behind_place}
-use Rattle.dcsctp_spec_lemmas.specs.spec.queues.IncomingStreams.{StreamModel, delivered_as, due, not_due, next_past, skipped_stream, stream_after_skip, skip_deliveries}
+use Rattle.dcsctp_spec_lemmas.specs.spec.queues.IncomingStreams.{StreamModel, delivered_as, due, not_due, next_due, next_past, skipped_stream, stream_after_skip, skip_deliveries}
 use Rattle.dcsctp_spec_lemmas.specs.spec.queues.Incoming.{IncomingModel, stream_on, skipped_on, stream_skipping, deliveries_of_skips, MovesOn}
 use Rattle.dcsctp_delivery_directions.specs.sending.Places.{HasEntry, table_with}
 use Rattle.dcsctp_delivery_directions.specs.sending.Log.{Message, Piece, History, sent_messages}
@@ -21,15 +21,17 @@ use Rattle.dcsctp_delivery_directions.proofs.receiving.Reading.{reads_moved, rea
 use Rattle.dcsctp_delivery_directions.proofs.receiving.Waiting.{both_queued, wait_spent, split_due}
 use Rattle.dcsctp_delivery_directions.specs.order.Rising.{DeliversRising}
 use Rattle.dcsctp_delivery_directions.specs.order.Order.{IsReadAs, AreReadAs}
-use Rattle.dcsctp_delivery_directions.specs.order.Reading.{CountsFromZero, IsInReach, OrderedStream, Watch}
-use Rattle.dcsctp_delivery_directions.specs.order.Incoming.{IsOrderedOrReset, NoneIsQuiet, HoldsOrdered, IncomingOrdered, NoneLimitedOn}
+use Rattle.dcsctp_delivery_directions.specs.order.Reading.{CountsFromZero, IsInReach, OrderedStream, Watch, IsSince}
+use Rattle.dcsctp_delivery_directions.specs.order.Epochs.{IsLimitedFrom}
+use Rattle.dcsctp_delivery_directions.specs.order.Incoming.{IsOrderedOrReset, NoneIsQuiet, HoldsOrdered, IncomingOrdered}
 use Rattle.dcsctp_delivery_directions.proofs.order.Rising.{skips_deliver_rising}
 use Rattle.dcsctp_delivery_directions.proofs.order.Order.{order_then}
-use Rattle.dcsctp_delivery_directions.proofs.order.Reading.{mids_are_read, skips_in_reach}
+use Rattle.dcsctp_delivery_directions.proofs.order.Reading.{mids_are_read, mids_counted, skips_in_reach}
 use Rattle.dcsctp_delivery_directions.proofs.order.Leaving.{others_where, one_stream, wait_on_it, split_ordered, LeavesOrder, none_left, alike_ordered}
 use Rattle.dcsctp_delivery_directions.proofs.order.Separated.{separated_more, read_since}
+use Rattle.dcsctp_delivery_directions.proofs.order.Epochs.{skip_by_epoch}
 
-module _ (watch : ℕ → Watch) (queued : List Message) (history : History) (free : NoneLimitedOn watch history.log) (quiet : ℕ → Bool) (got : List ℕ) (base : ℕ) (read : List ℕ) where
+module _ (watch : ℕ → Watch) (queued : List Message) (history : History) (quiet : ℕ → Bool) (got : List ℕ) (base : ℕ) (read : List ℕ) where
   rows_filter : (from : ℕ → ℕ) (Named : Piece → ℕ → Type 0) (test : RunModel → Bool) (runs : List RunModel) → AreRows history.log got from Named runs → AreRows history.log got from Named (filter test runs)
   rows_filter from Named test [] are = tt
   rows_filter from Named test (r ∷ runs) are = go (test r) (rows_filter from Named test runs are.1)
@@ -111,20 +113,12 @@ module _ (watch : ℕ → Watch) (queued : List Message) (history : History) (fr
         ];
       }
 
-  -- a stream on which that leads to something false isn't watch
-  with_gaps : (id : ℕ) → ((watch id).is_gapless ≡ true → ⊥) → (watch id).is_gapless ≡ false
-  with_gaps id never = go (watch id).is_gapless refl
-    where
-      go : (b : Bool) → (watch id).is_gapless ≡ b → (watch id).is_gapless ≡ false
-      go true is = absurd (never is)
-      go false is = is
-
   -- what is due becomes ready
-  leaves_due : (all places waits : List ℕ) (id next : ℕ) (stream new : StreamModel) (before : List MessageContent) → (CountsFromZero history id → (watch id).is_gapless ≡ false) → StreamHolds queued history got base id waits stream → WereQueued queued places before → AreDistinct (all ++ waits)
+  leaves_due : (all places waits : List ℕ) (id next : ℕ) (stream new : StreamModel) (before : List MessageContent) → (CountsFromZero history id → (number : ℕ) → stream.next ≤ number → number < next → IsLimitedFrom history id number) → new.next ≡ next_due next stream.waiting → StreamHolds queued history got base id waits stream → WereQueued queued places before → AreDistinct (all ++ waits)
       → new.waiting ≡ not_due next stream.waiting → (CountsFromZero history id → OrderedStream (watch id) queued history id all waits stream)
       → (CountsFromZero history id → DeliversRising stream before new (before ++ map (delivered_as stream.id) (due next stream.waiting)) (due next stream.waiting)) → (CountsFromZero history id → IsInReach new)
       → LeavesOrder (watch id) queued history got all places id new (before ++ map (delivered_as stream.id) (due next stream.waiting))
-  leaves_due all places waits id next stream new before skips holds were once left ordered rises reach =
+  leaves_due all places waits id next stream new before limited ends holds were once left ordered rises reach =
       let split = split_due queued history got id next waits stream.waiting holds.wait in
       record {
         more = split.front;
@@ -141,8 +135,9 @@ module _ (watch : ℕ → Watch) (queued : List Message) (history : History) (fr
               order = order_then queued history id all waits split.front split.back stream new before (before ++ map (delivered_as stream.id) (due next stream.waiting)) (due next stream.waiting) counts.follows (ordered counts).order (rises counts)
                   halves.0 (subst (λ (l : List WholeModel). AreReadAs history id split.back l) (sym left) halves.1);
               reach = reach counts;
-              filled = λ none. absurd (let clash : true ≡ false = sym none ∙ skips counts in cc);
-              separated = separated_more queued id (watch id).cuts all split.front
+              by_epoch = skip_by_epoch (watch id).asks queued history id stream.next next new.next (stream.next + 1) all split.front stream.waiting (ordered counts).order.ahead ends halves.0 (rises counts).rise (ordered counts).reach.from
+                  (limited counts) (ordered counts).by_epoch;
+              separated = separated_more queued id (watch id).asks (watch id).cuts all split.front
                   (read_since history id (watch id).cuts (ordered counts).since stream.next new.next split.front (due next stream.waiting) (ordered counts).reach.from halves.0 (rises counts).rise) (ordered counts).separated;
               since = (ordered counts).since;
             }
@@ -154,17 +149,34 @@ module _ (watch : ℕ → Watch) (queued : List Message) (history : History) (fr
       → LeavesOrder (watch (skipped_stream entry)) queued history got all places (skipped_stream entry) (stream_after_skip entry stream) (before ++ skip_deliveries entry stream)
   skipped_leaves passed all places waits (Ssn on ssn) stream before (skips, current) holds were once ordered =
       leaves_due all places waits on.0 (next_past (short_number_near stream.next ssn) stream.next) stream (stream_after_skip (Ssn on ssn) stream) before
-      (λ counts. absurd (let clash : true ≡ false = sym (counts.kinds skips.number skips.piece skips.at) ∙ skips.kind in cc)) holds were once refl ordered
+      (λ counts. absurd (let clash : true ≡ false = sym (counts.kinds skips.number skips.piece skips.at) ∙ skips.kind in cc)) refl holds were once refl ordered
       (λ counts. skips_deliver_rising (Ssn on ssn) stream before (ordered counts).order.ahead)
       (λ counts. absurd (let clash : true ≡ false = sym (counts.kinds skips.number skips.piece skips.at) ∙ skips.kind in cc))
   skipped_leaves passed all places waits (Mid on false mid) stream before (skips, current) holds were once ordered =
       leaves_due all places waits on.0 (next_past (number_near stream.next mid) stream.next) stream (stream_after_skip (Mid on false mid) stream) before
-      (λ counts. with_gaps on.0 (λ is. (let no : false ≡ true = sym (free skips.number skips.piece skips.at (ap (λ (k : ℕ). (watch k).is_gapless) (sym skips.stream) ∙ is)) ∙ skips.limited in cc))) holds were once refl ordered
+      (λ counts number low less. record {
+        offset = skips.number;
+        piece = skips.piece;
+        at = skips.at;
+        stream = sym skips.stream;
+        ordered = sym skips.unordered;
+        limited = skips.limited;
+        from = (let last = up_to (number_near stream.next mid) stream.next number low less in let counted = last_counted counts in omega (arith, last, counted));
+      }) refl holds were once refl ordered
       (λ counts. skips_deliver_rising (Mid on false mid) stream before (ordered counts).order.ahead)
       (λ counts. skips_in_reach queued history on.0 skips.piece.place mid all waits on stream counts (ordered counts).order
-      (subst (λ (k : ℕ). IsReadAs history on.0 skips.piece.place (number_near stream.next k)) (sym skips.is)
-      (mids_are_read history on.0 skips.number skips.piece stream counts (ordered counts).reach (record { at = skips.at; stream = sym skips.stream; ordered = sym skips.unordered; current = current })))
+      (subst (λ (k : ℕ). IsReadAs history on.0 skips.piece.place (number_near stream.next k)) (sym skips.is) (mids_are_read history on.0 skips.number skips.piece stream counts (ordered counts).reach named))
       (ordered counts).reach)
+    where
+      named : IsSince history on.0 skips.number skips.piece
+      named = record { at = skips.at; stream = sym skips.stream; ordered = sym skips.unordered; current = current }
+
+      -- the number of the message that it names
+      last_counted : CountsFromZero history on.0 → skips.piece.mid + 2 ^ 32 ≡ history.floors on.0 false + number_near stream.next mid
+      last_counted counts = subst (λ (k : ℕ). skips.piece.mid + 2 ^ 32 ≡ history.floors on.0 false + number_near stream.next k) (sym skips.is) (mids_counted history on.0 skips.number skips.piece stream counts (ordered counts).reach named)
+
+      up_to : (last next number : ℕ) → next ≤ number → number < next_past last next → number ≤ last
+      up_to last next number low less = omega (arith, low, less)
   skipped_leaves passed all places waits (Mid on true mid) stream before (skips, current) holds were once ordered =
       none_left (watch on.0) queued history got all places waits on.0 (stream_after_skip (Mid on true mid) stream) before (before ++ []) were holds.wait once (append-nil before)
       (λ counts. subst (λ (l : List ℕ). OrderedStream (watch on.0) queued history on.0 l waits (stream_after_skip (Mid on true mid) stream)) (sym (append-nil all))

@@ -31,7 +31,7 @@ use Rattle.dcsctp_delivery_directions.proofs.directions.Queued.{is_over}
 use Rattle.dcsctp_delivery_directions.proofs.directions.Receiving.{known_log, known_few, known_kinds, received_at, clears}
 use Rattle.dcsctp_delivery_directions.proofs.directions.Standing.{Arrived, Stands, content_said, packet_said}
 use Rattle.dcsctp_delivery_directions.specs.order.Reading.{CountsFromZero, Watch}
-use Rattle.dcsctp_delivery_directions.specs.order.Incoming.{NoneLimitedOn}
+use Rattle.dcsctp_delivery_directions.specs.order.Epochs.{SendsEpochsInTurn}
 use Rattle.dcsctp_delivery_directions.specs.order.Received.{none_quiet, HasReceivedInOrder}
 use Rattle.dcsctp_delivery_directions.proofs.order.Follows.{counts_from_zero}
 use Rattle.dcsctp_delivery_directions.proofs.order.Quiet.{AreSilent, Arrives, arrives_later, performing_arrives}
@@ -41,7 +41,7 @@ use Rattle.dcsctp_delivery_directions.proofs.order.Taken.{takes_in_order}
 use Rattle.dcsctp_delivery_directions.specs.sending.Log.{sent_messages}
 use Rattle.dcsctp_delivery_directions.specs.sending.Numbers.{CountsByKind}
 
-module _ (watch : ℕ → Watch) (first : ℕ) (old : Direction) (small : first < 2 ^ 32) (s : Stands first old) (free : NoneLimitedOn watch s.history.log) (little : length s.history.log < 2 ^ 31) (interleaved : old.queues.queue.is_interleaved ≡ true) where
+module _ (watch : ℕ → Watch) (first : ℕ) (old : Direction) (small : first < 2 ^ 32) (s : Stands first old) (turns : (id : ℕ) → SendsEpochsInTurn (watch id).asks old.queued s.history id) (little : length s.history.log < 2 ^ 31) (interleaved : old.queues.queue.is_interleaved ≡ true) where
   abbrev arrived : Arrived first s.history old
   arrived = s.arrived little
 
@@ -81,7 +81,7 @@ module _ (watch : ℕ → Watch) (first : ℕ) (old : Direction) (small : first 
     data_arrives offset arrival carries does =
         let few = known_few first old small s little in
         arrived_so
-        (received_in_order watch old.queued s.history first s.queues.cut (known_log first old small s little) few free before.quiet before.places offset arrival theirs new carries whole.old (λ id is. (before.silent id is).over) before.received does)
+        (received_in_order watch old.queued s.history first s.queues.cut (known_log first old small s little) few before.quiet before.places offset arrival theirs new carries whole.old (λ id is. (before.silent id is).over) before.received does)
         (received_grows arrival theirs new does)
         (λ id over clear. clear_through_data old.queued s.history first id arrived.places offset arrival theirs new few whole over carries clear does)
 
@@ -92,9 +92,9 @@ module _ (watch : ℕ → Watch) (first : ℕ) (old : Direction) (small : first 
       where
         go : (k : ℕ) → k ≤ length s.history.log → tsn ≡ (first + k + (2 ^ 32 - 1)) % 2 ^ 32 → SkipAll s.history k entries → HasReceivedInOrder watch (sent_messages old.queued s.history) before.quiet first before.places new.tracker new.reassembly
         go zero below is skip =
-            nothing_in_order watch old.queued s.history first s.queues.cut (known_log first old small s little) (known_few first old small s little) free before.quiet before.places tsn entries theirs new is before.received does
+            nothing_in_order watch old.queued s.history first s.queues.cut (known_log first old small s little) (known_few first old small s little) before.quiet before.places tsn entries theirs new is before.received does
         go (suc k) below is skip =
-            forwarded_in_order watch old.queued s.history first s.queues.cut (known_log first old small s little) (known_few first old small s little) free before.quiet before.places tsn entries theirs new
+            forwarded_in_order watch old.queued s.history first s.queues.cut (known_log first old small s little) (known_few first old small s little) before.quiet before.places tsn entries theirs new
             (record { offset = k; below = omega (arith, below); is = is ∙ omega arith }) (subst (λ (j : ℕ). SkipAll s.history j entries) (omega arith) skip) (known_kinds first old small s interleaved) whole.old
             (λ id is. (before.silent id is).over) before.received does
 
@@ -155,9 +155,9 @@ module _ (watch : ℕ → Watch) (first : ℕ) (old : Direction) (small : first 
         silent = λ id is. (let q = a.silent id is in record { handed = q.handed; over = q.over; clear = (clear_through_rest id old.reassembly q.clear).0 last_tsn streams });
       }
   arrives_on _ (performs newest earlier new asks unknown reached own leaves) ends named unended a =
-      performing_arrives watch first old small s free little interleaved newest earlier new asks (one_out newest earlier asks (unended (unknown interleaved))) named reached own leaves a
+      performing_arrives watch first old small s turns little interleaved newest earlier new asks (one_out newest earlier asks (unended (unknown interleaved))) named reached own leaves a
   arrives_on _ (performs_earlier newest earlier new asks unknown reached own leaves) ends named unended a =
-      performing_arrives watch first old small s free little interleaved newest earlier new asks (one_out newest earlier asks (unended (unknown interleaved))) named reached own leaves a
+      performing_arrives watch first old small s turns little interleaved newest earlier new asks (one_out newest earlier asks (unended (unknown interleaved))) named reached own leaves a
   arrives_on _ (resets streams new unmixed some leaves) ends named unended a = absurd (let clash : true ≡ false = sym interleaved ∙ unmixed in cc)
   arrives_on _ (takes message messages ready) ends named unended a =
       let t = takes_in_order watch old.queued s.history a.quiet first a.places old.tracker old.reassembly message messages ready a.received in
@@ -182,7 +182,7 @@ module _ (watch : ℕ → Watch) (first : ℕ) (old : Direction) (small : first 
         were = a.were;
         once = a.once;
         quiet = none_quiet;
-        received = raised_in_order watch old.queued s.history old.queues.queue.streams s.queues.cut kinds counts a.quiet (λ id is. (a.silent id is).handed) first old.tracker.cumulative old.reassembly
+        received = raised_in_order watch old.queued s.history old.queues.queue.streams s.queues.cut kinds counts turns a.quiet (λ id is. (a.silent id is).handed) first old.tracker.cumulative old.reassembly
             (is_over first old s one (arrived.cleared interleaved performed))
             (none_current_now s.history old.queues.queue.streams (subst (λ (b : Bool). CountsByKind b s.history old.queues.queue.streams old.queues.queue.held) interleaved s.queues.numbers.counts)) a.places old.tracker a.received;
         silent = λ id is. absurd (cc);

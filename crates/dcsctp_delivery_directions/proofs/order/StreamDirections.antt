@@ -35,14 +35,16 @@ use Rattle.dcsctp_delivery_directions.proofs.directions.Standing.{Stands}
 use Rattle.dcsctp_delivery_directions.proofs.directions.Steps.{stepped, more_queued}
 use Rattle.dcsctp_delivery_directions.specs.order.Delivered.{AreDeliveredWithoutGaps}
 use Rattle.dcsctp_delivery_directions.specs.order.Gaps.{SendsInTurn}
-use Rattle.dcsctp_delivery_directions.specs.order.Incoming.{IncomingOrdered, IsOrderedOrReset, NoneLimitedOn}
-use Rattle.dcsctp_delivery_directions.specs.order.Reading.{CountsFromZero, OrderedStream, uncut}
+use Rattle.dcsctp_delivery_directions.specs.order.Incoming.{IncomingOrdered, IsOrderedOrReset}
+use Rattle.dcsctp_delivery_directions.specs.order.Epochs.{AreSentUnlimited}
+use Rattle.dcsctp_delivery_directions.specs.order.Reading.{CountsFromZero, OrderedStream, uncut, any_asked}
 use Rattle.dcsctp_delivery_directions.specs.order.Received.{none_quiet, ReassemblesInOrder, none_handled, some_handled}
 use Rattle.dcsctp_delivery_directions.specs.order.Streams.{NoneLostOn, CurrentOn, AreDeliveredByStream}
 use Rattle.dcsctp_delivery_directions.proofs.order.Beginning.{waits_from}
 use Rattle.dcsctp_delivery_directions.proofs.order.Delivered.{no_gap_front}
-use Rattle.dcsctp_delivery_directions.proofs.order.Directions.{Unended, step_keeps, raised_zero}
+use Rattle.dcsctp_delivery_directions.proofs.order.Directions.{Unended, step_keeps, raised_zero, asked_always}
 use Rattle.dcsctp_delivery_directions.proofs.order.Follows.{counts_from_zero}
+use Rattle.dcsctp_delivery_directions.proofs.order.Epochs.{all_filled}
 use Rattle.dcsctp_delivery_directions.proofs.order.Gaps.{filled_no_gap}
 use Rattle.dcsctp_delivery_directions.proofs.order.Incoming.{ordered_was_read}
 use Rattle.dcsctp_delivery_directions.proofs.sending.OpenOn.{queueing_open_on, setting_open_on, committing_open_on, rolling_back_open_on, preparing_open_on, flush_open_on, preparing_waits}
@@ -61,8 +63,8 @@ abbrev AreKept : (ℕ → Bool) → Beginning → Type 0
 AreKept gapless beginning = (id : ℕ) → gapless id ≡ true → beginning.keeps id ≡ true
 
 -- So none that was sent on them may be.
-free_on : (gapless : ℕ → Bool) (queued : List Message) (log : List Slot) → IsLogOfPieces queued log → AreFree gapless queued → NoneLimitedOn (uncut gapless) log
-free_on gapless queued log cut are n f at on = unlimited_on_at f.message.stream queued f.place f.message (are f.message.stream on) (cut.pieces n f at).at refl
+free_on : (id : ℕ) (queued : List Message) (history : History) → IsLogOfPieces queued history.log → AreUnlimitedOn id queued → AreSentUnlimited history id 0
+free_on id queued history cut are n f at on ordered from = unlimited_on_at id queued f.place f.message are (cut.pieces n f at).at on
 
 -- A stream that is kept isn't among those that are prepared to be reset.
 not_named : (beginning : Beginning) (count id : ℕ) (ids : List ℕ) → beginning.keeps id ≡ true → AllByRecursion (MayReset beginning count) ids → is_named ids id ≡ false
@@ -218,7 +220,7 @@ record GoesOnGapless (gapless : ℕ → Bool) (first : ℕ) (direction : Directi
   current : direction.queues.queue.is_interleaved ≡ true → (id : ℕ) → gapless id ≡ true → CurrentOn id stands.history
   lost : direction.queues.queue.is_interleaved ≡ true → (id : ℕ) → gapless id ≡ true → NoneLostOn id direction.queued stands.history.log direction.queues.queue.streams
   arrives : length stands.history.log < 2 ^ 31 → direction.queues.queue.is_interleaved ≡ true → direction.beginning.from_zero ≡ true
-      → Arrives (uncut gapless) first stands.history direction.queued direction.read direction.tracker direction.reassembly direction.queues.queue.streams
+      → Arrives (uncut any_asked) first stands.history direction.queued direction.read direction.tracker direction.reassembly direction.queues.queue.streams
 
 -- They were kept before a step, and none of them had limits.
 kept_before : (gapless : ℕ → Bool) (old direction : Direction) → DirectionStep old direction → AreKept gapless direction.beginning → AreKept gapless old.beginning
@@ -249,7 +251,7 @@ begins_so gapless first direction s floors is none_out none_asked at_zero all =
             were = a.were;
             once = a.once;
             quiet = none_quiet;
-            received = received_none direction.queued s.history empty gapless first a.places direction.tracker direction.reassembly a.received;
+            received = received_none direction.queued s.history empty any_asked first a.places direction.tracker direction.reassembly a.received;
             silent = λ other silent. absurd (cc);
           }
           );
@@ -263,7 +265,6 @@ gapless_goes_on gapless first old small g direction few are step kept ends =
     let s = stepped first old small g.stands direction few step in
     let c : Continues g.stands.history s.history old.queues.queue.streams direction.queues.queue.streams old.asking.out direction.asking.out = step_continues first old small g.stands direction few step ends in
     let k = step_keeps old direction step ends in
-    let free : NoneLimitedOn (uncut gapless) g.stands.history.log = free_on gapless old.queued g.stands.history.log g.stands.queues.cut (free_before gapless old direction step are) in
     record {
       stands = s;
       named = c.named g.named;
@@ -281,8 +282,8 @@ gapless_goes_on gapless first old small g direction few are step kept ends =
           let sizes : length s.history.log ≡ length (c.more ++ g.stands.history.log) = ap (λ (l : List Slot). length l) c.log in
           let before : length g.stands.history.log < 2 ^ 31 = omega (arith, little, sizes, length-append c.more g.stands.history.log) in
           let was : old.queues.queue.is_interleaved ≡ true = sym k.kind ∙ interleaved in
-          arrives_later (uncut gapless) first g.stands.history s.history old.queues.queue.streams direction.queues.queue.streams old.asking.out direction.asking.out c direction.queued [] direction.read direction.tracker direction.reassembly
-          (arrives_on (uncut gapless) first old small g.stands free before was direction step ends g.named (g.unended was) (g.arrives before was (sym k.start ∙ from)))
+          arrives_later (uncut any_asked) first g.stands.history s.history old.queues.queue.streams direction.queues.queue.streams old.asking.out direction.asking.out c direction.queued [] direction.read direction.tracker direction.reassembly
+          (arrives_on (uncut any_asked) first old small g.stands (asked_always old.queued g.stands.history) before was direction step ends g.named (g.unended was) (g.arrives before was (sym k.start ∙ from)))
           (λ id loud since cut has. absurd has)
           );
     }
@@ -300,7 +301,6 @@ gapless_steps : (gapless : ℕ → Bool) (first : ℕ) (old : Direction) → fir
     → DirectionStep old direction → AreKept gapless old.beginning → GoesOnGapless gapless first direction
 gapless_steps gapless first old small g _ few are (commits go_on) kept =
     let s = stepped first old small g.stands _ few (commits go_on) in
-    let free : NoneLimitedOn (uncut gapless) g.stands.history.log = free_on gapless old.queued g.stands.history.log g.stands.queues.cut are in
     let raises : old.queues.queue.is_interleaved ≡ true → s.history ≡ floors_raised old.queues.queue.streams g.stands.history = ended_raises first old small g.stands few go_on in
     record {
       stands = s;
@@ -315,8 +315,8 @@ gapless_steps gapless first old small g _ few are (commits go_on) kept =
           step_keeps_on id first old g.stands _ (commits go_on) (kept id is) (are id is) s [] (ap (λ (h : History). h.log) (raises interleaved)) (g.lost interleaved id is);
       arrives = λ little interleaved from. (
           let before : length g.stands.history.log < 2 ^ 31 = subst (λ (h : History). length h.log < 2 ^ 31) (raises interleaved) little in
-          subst (λ (h : History). Arrives (uncut gapless) first h old.queued old.read old.tracker old.reassembly (queue_committed old.queues.queue).streams) (sym (raises interleaved))
-          (committing_arrives (uncut gapless) first old small g.stands free before interleaved (go_on interleaved).0 (go_on interleaved).1 (g.zero interleaved from) (g.arrives before interleaved from))
+          subst (λ (h : History). Arrives (uncut any_asked) first h old.queued old.read old.tracker old.reassembly (queue_committed old.queues.queue).streams) (sym (raises interleaved))
+          (committing_arrives (uncut any_asked) first old small g.stands (asked_always old.queued g.stands.history) before interleaved (go_on interleaved).0 (go_on interleaved).1 (g.zero interleaved from) (g.arrives before interleaved from))
           );
     }
 gapless_steps gapless first old small g _ few are (rolls_back unmixed) kept =
@@ -416,27 +416,28 @@ so_unlimited id (message ∷ queued) are =
 abbrev gapless_of : Direction → ℕ → Bool
 gapless_of direction id = direction.beginning.keeps id && are_unlimited_on id direction.queued
 
-module _ (direction : Direction) (history : History) (counts : (id : ℕ) → CountsFromZero history id)
+module _ (direction : Direction) (history : History) (cut : IsLogOfPieces direction.queued history.log) (counts : (id : ℕ) → CountsFromZero history id)
     (turns : (id : ℕ) → gapless_of direction id ≡ true → SendsInTurn direction.queued history id) where
   read_gapless : (quiet : ℕ → Bool) → ((id : ℕ) → gapless_of direction id ≡ true → quiet id ≡ false) → (got : List ℕ) (base : ℕ) (places : List ℕ) → WereQueued direction.queued places direction.read → AreDistinct places
-      → IncomingOrdered (uncut (gapless_of direction)) (sent_messages direction.queued history) quiet got base places direction.reassembly.incoming → AreDeliveredByStream direction.beginning.keeps direction.queued direction.read
+      → IncomingOrdered (uncut any_asked) (sent_messages direction.queued history) quiet got base places direction.reassembly.incoming → AreDeliveredByStream direction.beginning.keeps direction.queued direction.read
   read_gapless quiet loud got base places were once o =
       record {
         ordered = record {
           delivered = record { places = places; were_queued = were; once = once };
-          in_order = λ id. ordered_was_read (uncut (gapless_of direction)) direction.queued history quiet got base places direction.reassembly.incoming id (counts id) o;
+          in_order = λ id. ordered_was_read (uncut any_asked) direction.queued history quiet got base places direction.reassembly.incoming id (counts id) o;
         };
         no_gap = λ id kept are. (
             let is : gapless_of direction id ≡ true = rw kept (so_unlimited id direction.queued are) in
-            let here : OrderedStream (uncut (gapless_of direction) id) direction.queued history id (places ++ o.holds.places) (o.holds.waits id) (stream_on id direction.reassembly.incoming.streams) =
-            subst (λ (b : Bool). IsOrderedOrReset (uncut (gapless_of direction) id) b (sent_messages direction.queued history) id (places ++ o.holds.places) (o.holds.waits id) (stream_on id direction.reassembly.incoming.streams)) (loud id is) (o.order id (counts id)) in
+            let here : OrderedStream (uncut any_asked id) direction.queued history id (places ++ o.holds.places) (o.holds.waits id) (stream_on id direction.reassembly.incoming.streams) =
+            subst (λ (b : Bool). IsOrderedOrReset (uncut any_asked id) b (sent_messages direction.queued history) id (places ++ o.holds.places) (o.holds.waits id) (stream_on id direction.reassembly.incoming.streams)) (loud id is) (o.order id (counts id)) in
             no_gap_front direction.queued id places o.holds.places here.order.in_order
-            (filled_no_gap direction.queued history id (places ++ o.holds.places) (o.holds.waits id) (stream_on id direction.reassembly.incoming.streams) (counts id) (turns id is) here.order (here.filled is))
+            (filled_no_gap direction.queued history id (places ++ o.holds.places) (o.holds.waits id) (stream_on id direction.reassembly.incoming.streams) (counts id) (turns id is) here.order
+            (all_filled (any_asked id) direction.queued history id (places ++ o.holds.places) (stream_on id direction.reassembly.incoming.streams).next (free_on id direction.queued history cut are) here.by_epoch))
             );
       }
 
   read_so : (quiet : ℕ → Bool) → ((id : ℕ) → gapless_of direction id ≡ true → quiet id ≡ false) → (first : ℕ) (got places : List ℕ) → WereQueued direction.queued places direction.read → AreDistinct places
-      → ReassemblesInOrder (uncut (gapless_of direction)) (sent_messages direction.queued history) quiet first got places direction.reassembly.incoming → AreDeliveredByStream direction.beginning.keeps direction.queued direction.read
+      → ReassemblesInOrder (uncut any_asked) (sent_messages direction.queued history) quiet first got places direction.reassembly.incoming → AreDeliveredByStream direction.beginning.keeps direction.queued direction.read
   read_so quiet loud first got places were once (none_handled none last empty) = read_gapless quiet loud [] 0 places were once (empty 0)
   read_so quiet loud first got places were once (some_handled base at holds) = read_gapless quiet loud got base places were once holds
 
@@ -458,7 +459,7 @@ streams_deliver_without_gaps options first size direction run small little few i
     λ id is. sends_in_turn_on direction.queued s.history id direction.queues.queue (counts id) (g.current interleaved id is) s.queues.cut s.queues.queue_holds (g.lost interleaved id is) in
     let loud : ((id : ℕ) → gapless_of direction id ≡ true → a.quiet id ≡ false) =
     λ id is. loud_by a.quiet id (λ silent. (let clash : true ≡ false = sym (a.silent id silent).handed ∙ not_handed id direction.queues.queue.streams (g.unpaused id is) in cc)) in
-    read_so direction s.history counts turns a.quiet loud first a.received.got a.places a.were a.once a.received.holds
+    read_so direction s.history s.queues.cut counts turns a.quiet loud first a.received.got a.places a.were a.once a.received.holds
 
 -- ---- where all streams are kept, and none has limits
 

@@ -31,7 +31,7 @@ module _ (queued : List Message) (history : History) (id : ℕ) (cut : IsLogOfPi
   none_wait got (p ∷ waits) [] wait next = absurd wait
   none_wait got (p ∷ waits) (w ∷ waiting) wait next = absurd (none wait.0.offset wait.0.head wait.0.at wait.0.number.0)
 
-  pub unsent_ordered : (watch : Watch) (got : List ℕ) (base : ℕ) (read : List ℕ) (incoming : IncomingModel) (holds : HoldsIncoming queued history got base read incoming) → AreSeparated queued id watch.cuts (read ++ holds.places)
+  pub unsent_ordered : (watch : Watch) (got : List ℕ) (base : ℕ) (read : List ℕ) (incoming : IncomingModel) (holds : HoldsIncoming queued history got base read incoming) → AreSeparated watch.asks queued id watch.cuts (read ++ holds.places)
       → OrderedStream watch queued history id (read ++ holds.places) (holds.waits id) (stream_on id incoming.streams)
   unsent_ordered watch got base read incoming holds separated =
       let here = holds.streams_hold id in
@@ -42,7 +42,7 @@ module _ (queued : List Message) (history : History) (id : ℕ) (cut : IsLogOfPi
       record {
         order = record { in_order = in_order_none queued id (read ++ holds.places) elsewhere; below = λ place has on. absurd (elsewhere place has on); waiting = waits.0; ahead = waits.1 };
         reach = record { from = omega (arith, next); up_to = omega (arith, next) };
-        filled = λ is number low less. absurd (omega (arith, next, low, less));
+        by_epoch = record { filled = λ number low less. absurd (omega (arith, next, low, less)); since = λ later has on. absurd (elsewhere later has on) };
         separated = separated;
         since = λ cut has n f at on. absurd (none n f at on);
       }
@@ -70,20 +70,20 @@ module _ (queued : List Message) (history : History) (empty : history.log ≡ []
         shuts = λ n f at. absurd (nowhere n (Some f) at);
       }
 
-  holds_none : (gapless : ℕ → Bool) (got : List ℕ) (base : ℕ) (read : List ℕ) (incoming : IncomingModel) → HoldsIncoming queued history got base read incoming → IncomingOrdered (uncut gapless) (sent_messages queued history) none_quiet got base read incoming
-  holds_none gapless got base read incoming holds =
+  holds_none : (asks : ℕ → ℕ → Bool) (got : List ℕ) (base : ℕ) (read : List ℕ) (incoming : IncomingModel) → HoldsIncoming queued history got base read incoming → IncomingOrdered (uncut asks) (sent_messages queued history) none_quiet got base read incoming
+  holds_none asks got base read incoming holds =
       record {
         holds = holds;
-        order = λ id counts. unsent_ordered queued history id no_cut (λ n f at. absurd (nowhere n (Some f) at)) (λ n f at on. absurd (nowhere n (Some f) at)) (uncut gapless id) got base read incoming holds (λ cut has. absurd has);
+        order = λ id counts. unsent_ordered queued history id no_cut (λ n f at. absurd (nowhere n (Some f) at)) (λ n f at on. absurd (nowhere n (Some f) at)) (uncut asks id) got base read incoming holds (λ cut has. absurd has);
       }
 
-  pub reassembles_none : (gapless : ℕ → Bool) (first : ℕ) (got read : List ℕ) (incoming : IncomingModel) → Reassembles queued history first got read incoming → ReassemblesInOrder (uncut gapless) (sent_messages queued history) none_quiet first got read incoming
-  reassembles_none gapless first got read incoming (untouched none' last empty') = none_handled none' last (λ base. holds_none gapless [] base read incoming (empty' base))
-  reassembles_none gapless first got read incoming (placed base is holds) = some_handled base is (holds_none gapless got base read incoming holds)
+  pub reassembles_none : (asks : ℕ → ℕ → Bool) (first : ℕ) (got read : List ℕ) (incoming : IncomingModel) → Reassembles queued history first got read incoming → ReassemblesInOrder (uncut asks) (sent_messages queued history) none_quiet first got read incoming
+  reassembles_none asks first got read incoming (untouched none' last empty') = none_handled none' last (λ base. holds_none asks [] base read incoming (empty' base))
+  reassembles_none asks first got read incoming (placed base is holds) = some_handled base is (holds_none asks got base read incoming holds)
 
-  pub received_none : (gapless : ℕ → Bool) (first : ℕ) (read : List ℕ) (tracker : TrackerState) (reassembly : ReassemblyState) → HasReceived queued history first read tracker reassembly
-      → HasReceivedInOrder (uncut gapless) (sent_messages queued history) none_quiet first read tracker reassembly
-  received_none gapless first read tracker reassembly r =
+  pub received_none : (asks : ℕ → ℕ → Bool) (first : ℕ) (read : List ℕ) (tracker : TrackerState) (reassembly : ReassemblyState) → HasReceived queued history first read tracker reassembly
+      → HasReceivedInOrder (uncut asks) (sent_messages queued history) none_quiet first read tracker reassembly
+  received_none asks first read tracker reassembly r =
       record {
         taken = r.taken;
         got = r.got;
@@ -93,6 +93,6 @@ module _ (queued : List Message) (history : History) (empty : history.log ≡ []
         later_taken = r.later_taken;
         apart = r.apart;
         distinct = r.distinct;
-        holds = reassembles_none gapless first r.got read reassembly.incoming r.holds;
+        holds = reassembles_none asks first r.got read reassembly.incoming r.holds;
         defers = r.defers;
       }

@@ -57,6 +57,8 @@ nothing_asked = record { requests = []; out = 0; is_performed = false }
 pub record Beginning : Type 0 where
   -- With number 0 on each stream (RFC 9260, section 6.5)?
   pub from_zero : Bool
+  -- With all that was queued before, on each stream?
+  pub has_all : Bool
   -- On which streams with all that was queued before, and does it never reset them?
   pub keeps : ℕ → Bool
   -- Does its user ask for a reset of the stream when so many messages were queued?
@@ -250,6 +252,7 @@ pub record BeginsAtZero (queue : SendQueueState) : Type 0 where
 -- The sender begins so with this queue, once all this was queued.
 pub record BeginsAs (beginning : Beginning) (queued : List Message) (queue : SendQueueState) : Type 0 where
   pub zero : beginning.from_zero ≡ true → BeginsAtZero queue
+  pub whole : beginning.has_all ≡ true → (id : ℕ) → AllWaitOn id queued queue.streams
   pub all : (id : ℕ) → beginning.keeps id ≡ true → AllWaitOn id queued queue.streams
 
 -- An association begins; what was queued before may wait.

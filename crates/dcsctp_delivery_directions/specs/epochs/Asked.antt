@@ -7,23 +7,26 @@ use Rattle.dcsctp_spec.specs.queues.Reassembly.{names_stream}
 use Rattle.dcsctp_delivery_directions.specs.sending.Places.{HasEntry}
 use Rattle.dcsctp_delivery_directions.specs.sending.Log.{Message}
 use Rattle.dcsctp_delivery_directions.specs.directions.Directions.{PerformedReset, Direction, DirectionRun, assigned_count}
-use Rattle.dcsctp_delivery_directions.specs.order.Queue.{Separates}
+use Rattle.dcsctp_delivery_directions.specs.order.Queue.{Separates, LeaveNoGapBefore}
 use Rattle.dcsctp_delivery_directions.specs.order.Delivered.{AreDeliveredInOrder}
 
 -- The reset was asked for when so many messages were queued. Of the messages of the stream the first ones, up to this index, were
--- queued before, and none of the others.
-pub record IsAskedCut (asks : ℕ → ℕ → Bool) (queued : List Message) (id index : ℕ) (places : List ℕ) : Type 0 where
+-- queued before, and none of the others. They leave no gap, if the sender began with all that was queued.
+pub record IsAskedCut (whole : Bool) (asks : ℕ → ℕ → Bool) (queued : List Message) (id index : ℕ) (places : List ℕ) : Type 0 where
   pub place : ℕ
   pub asked : asks id place ≡ true
   pub separates : Separates queued id index place places
+  pub no_gap : whole ≡ true → LeaveNoGapBefore (asks id) queued id place places
 
--- What was read is in order, and it is so of each reset that was performed, on each stream that it names.
-pub record AreCutAsAsked (asks : ℕ → ℕ → Bool) (performed : List PerformedReset) (queued : List Message) (read : List MessageContent) : Type 0 where
+-- What was read is in order, and it is so of each reset that was performed, on each stream that it names. What was read since leaves
+-- no gap either.
+pub record AreCutAsAsked (whole : Bool) (asks : ℕ → ℕ → Bool) (performed : List PerformedReset) (queued : List Message) (read : List MessageContent) : Type 0 where
   pub ordered : AreDeliveredInOrder queued read
-  pub cut : (id : ℕ) (reset : PerformedReset) → HasEntry reset performed → names_stream reset.streams id ≡ true → IsAskedCut asks queued id reset.index ordered.delivered.places
+  pub cut : (id : ℕ) (reset : PerformedReset) → HasEntry reset performed → names_stream reset.streams id ≡ true → IsAskedCut whole asks queued id reset.index ordered.delivered.places
+  pub no_gap : whole ≡ true → (id : ℕ) → LeaveNoGapBefore (asks id) queued id (length queued) ordered.delivered.places
 
 -- With interleaving it is so where the sender began with number 0 on each stream, if fewer than 2^31 TSNs were assigned.
 abbrev pub DirectionsCutAsAsked : Type 0
 DirectionsCutAsAsked =
     (options : Options) (first size : ℕ) (direction : Direction) → DirectionRun options first size direction → first < 2 ^ 32 → assigned_count direction < 2 ^ 31 → length direction.queued < 2 ^ 64
-    → direction.queues.queue.is_interleaved ≡ true → direction.beginning.from_zero ≡ true → AreCutAsAsked direction.beginning.asks direction.performed direction.queued direction.read
+    → direction.queues.queue.is_interleaved ≡ true → direction.beginning.from_zero ≡ true → AreCutAsAsked direction.beginning.has_all direction.beginning.asks direction.performed direction.queued direction.read

@@ -1,13 +1,13 @@
 -- What a receiver has performed of what its peer's user asked for, and what is read in each epoch of a
 -- stream (RFC 6525, section 5.2.2).
-use Rattle.std.specs.Prelude.{◌≡◌, ◌<◌, ◌+◌, ◌^◌, ℕ, true, Option, None, Some, List, [], ◌∷◌, length, if◌then◌else◌}
+use Rattle.std.specs.Prelude.{◌≡◌, ◌<◌, ◌+◌, ◌^◌, ℕ, Bool, true, Option, None, Some, List, [], ◌∷◌, length, if◌then◌else◌}
 use Rattle.dcsctp_spec.specs.types.declared.options.Options.{Options}
 use Rattle.dcsctp_spec.specs.types.queues.Messages.{MessageContent}
 use Rattle.dcsctp_spec.specs.queues.Reassembly.{names_stream}
 use Rattle.dcsctp_delivery_directions.specs.sending.Places.{HasEntry}
 use Rattle.dcsctp_delivery_directions.specs.sending.Log.{Message}
-use Rattle.dcsctp_delivery_directions.specs.directions.Directions.{Direction, DirectionStep, performs, performs_earlier, DirectionRun, begins, goes_on, starts, assigned_count}
-use Rattle.dcsctp_delivery_directions.specs.order.Queue.{Cut, Separates}
+use Rattle.dcsctp_delivery_directions.specs.directions.Directions.{Beginning, Direction, DirectionStep, performs, performs_earlier, DirectionRun, begins, goes_on, starts, assigned_count}
+use Rattle.dcsctp_delivery_directions.specs.order.Queue.{Cut, Separates, LeaveNoGapBefore}
 use Rattle.dcsctp_delivery_directions.specs.order.Delivered.{AreDeliveredInOrder}
 use Rattle.dcsctp_delivery_directions.specs.epochs.Sending.{EpochBounds}
 use Rattle.dcsctp_delivery_directions.specs.epochs.Directions.{asked_of}
@@ -33,14 +33,21 @@ cuts_of options first size _ (begins direction begun) = λ id. []
 cuts_of options first size _ (goes_on old direction run step) = cuts_after old direction step (asked_of options first size old run) (cuts_of options first size old run)
 cuts_of options first size _ (starts old queued sender_queues beginning run awaited fit waits none begun) = λ id. []
 
+-- when its user asks for a reset of a stream; or a reset may be asked for at any time, if the sender began without some of what was
+-- queued
+abbrev pub known_asks : Beginning → ℕ → ℕ → Bool
+known_asks beginning id count = if beginning.has_all then beginning.asks id count else true
+
 -- What was read is in order, and each reset of a stream that was performed separates what was queued before it was asked for from
--- what was queued since.
-pub record AreDeliveredByEpoch (cuts : ℕ → List Cut) (queued : List Message) (read : List MessageContent) : Type 0 where
+-- what was queued since. No epoch has a gap.
+pub record AreDeliveredByEpoch (asks : ℕ → ℕ → Bool) (cuts : ℕ → List Cut) (queued : List Message) (read : List MessageContent) : Type 0 where
   pub ordered : AreDeliveredInOrder queued read
   pub epochs : (id : ℕ) (cut : Cut) → HasEntry cut (cuts id) → Separates queued id cut.index cut.place ordered.delivered.places
+  pub no_gaps : (id : ℕ) (cut : Cut) → HasEntry cut (cuts id) → LeaveNoGapBefore (asks id) queued id cut.place ordered.delivered.places
+  pub no_gap : (id : ℕ) → LeaveNoGapBefore (asks id) queued id (length queued) ordered.delivered.places
 
 -- With interleaving it is so where the sender began with number 0 on each stream, if fewer than 2^31 TSNs were assigned.
 abbrev pub DirectionsDeliverByEpoch : Type 0
 DirectionsDeliverByEpoch =
     (options : Options) (first size : ℕ) (direction : Direction) (run : DirectionRun options first size direction) → first < 2 ^ 32 → assigned_count direction < 2 ^ 31 → length direction.queued < 2 ^ 64
-    → direction.queues.queue.is_interleaved ≡ true → direction.beginning.from_zero ≡ true → AreDeliveredByEpoch (cuts_of options first size direction run) direction.queued direction.read
+    → direction.queues.queue.is_interleaved ≡ true → direction.beginning.from_zero ≡ true → AreDeliveredByEpoch (known_asks direction.beginning) (cuts_of options first size direction run) direction.queued direction.read

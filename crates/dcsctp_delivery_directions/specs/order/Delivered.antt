@@ -1,14 +1,15 @@
 -- What is promised of one direction of an association beside that each message read was queued, and
 -- none twice: ordered messages of a stream are read in the order in which they were queued, and
 -- without gaps where none is skipped (RFC 9260, section 6.6).
-use Rattle.std.specs.Prelude.{ℕ, Bool, true, false, List}
+use Rattle.std.specs.Prelude.{ℕ, Bool, false, List}
 use Rattle.dcsctp_spec_lemmas.specs.types.queues.Messages.{MessageContent}
 use Rattle.dcsctp_spec_lemmas.specs.spec.queues.Incoming.{IncomingModel}
 use Rattle.dcsctp_delivery_directions.specs.sending.Log.{Message, History, sent_messages}
 use Rattle.dcsctp_delivery_directions.specs.receiving.Ready.{AreDistinct, WereQueued}
 use Rattle.dcsctp_delivery_directions.specs.directions.Directions.{AreDelivered}
 use Rattle.dcsctp_delivery_directions.specs.order.Queue.{ComeInOrder, LeaveNoGap}
-use Rattle.dcsctp_delivery_directions.specs.order.Reading.{CountsFromZero, Watch, uncut}
+use Rattle.dcsctp_delivery_directions.specs.order.Reading.{CountsFromZero, Watch, uncut, any_asked}
+use Rattle.dcsctp_delivery_directions.specs.order.Epochs.{AreSentUnlimited}
 use Rattle.dcsctp_delivery_directions.specs.order.Gaps.{SendsInTurn}
 use Rattle.dcsctp_delivery_directions.specs.order.Incoming.{IncomingOrdered}
 
@@ -29,9 +30,9 @@ ReadIsInOrder =
     → WereQueued queued places read → AreDistinct places → ((id : ℕ) → CountsFromZero history id) → IncomingOrdered watch (sent_messages queued history) quiet got base places incoming
     → AreDeliveredInOrder queued read
 
--- They are read without gaps where besides nothing is skipped or reset, and messages are sent in turn.
+-- They are read without gaps where besides no message that was sent has limits, nothing is reset, and messages are sent in turn.
 abbrev pub ReadIsWithoutGaps : Type 0
 ReadIsWithoutGaps =
     (queued : List Message) (history : History) (got : List ℕ) (base : ℕ) (places : List ℕ) (incoming : IncomingModel) (read : List MessageContent)
-    → WereQueued queued places read → AreDistinct places → ((id : ℕ) → CountsFromZero history id) → ((id : ℕ) → SendsInTurn queued history id)
-    → IncomingOrdered (uncut (λ id. true)) (sent_messages queued history) (λ id. false) got base places incoming → AreDeliveredWithoutGaps queued read
+    → WereQueued queued places read → AreDistinct places → ((id : ℕ) → CountsFromZero history id) → ((id : ℕ) → SendsInTurn queued history id) → ((id : ℕ) → AreSentUnlimited history id 0)
+    → IncomingOrdered (uncut any_asked) (sent_messages queued history) (λ id. false) got base places incoming → AreDeliveredWithoutGaps queued read

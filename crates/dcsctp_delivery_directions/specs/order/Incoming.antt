@@ -9,17 +9,19 @@ use Rattle.dcsctp_spec_lemmas.specs.spec.queues.IncomingStreams.{StreamModel, Ch
 use Rattle.dcsctp_spec_lemmas.specs.spec.queues.Incoming.{IncomingModel, nothing, stream_on, TakesIncomingChunk, MovesOn, ResetsStreams}
 use Rattle.dcsctp_spec_lemmas.specs.spec.queues.Reassembly.{names_stream}
 use Rattle.dcsctp_delivery_directions.specs.sending.Places.{HasEntry, at_place}
-use Rattle.dcsctp_delivery_directions.specs.sending.Log.{Message, Piece, Slot, History, IsLogOfPieces, sent_messages, SentMessages}
+use Rattle.dcsctp_delivery_directions.specs.sending.Log.{Message, Slot, History, IsLogOfPieces, sent_messages, SentMessages}
 use Rattle.dcsctp_delivery_directions.specs.sending.Numbers.{IsUnambiguous}
 use Rattle.dcsctp_delivery_directions.specs.receiving.Ready.{HoldsAll, WasQueued, WereQueued, BearsPiece, AreNamed, held_messages, HeldMessages}
 use Rattle.dcsctp_delivery_directions.specs.order.Queue.{ComeInOrder, AreSeparated}
 use Rattle.dcsctp_delivery_directions.specs.order.Order.{IsBetweenResets}
+use Rattle.dcsctp_delivery_directions.specs.order.Epochs.{LeaveNoGapSent, SendsEpochsInTurn}
 use Rattle.dcsctp_delivery_directions.specs.order.Reading.{CountsFromZero, OrderedStream, Watch, uncut, ComeSince}
 
 -- The stream is in order; or it was reset, and its messages aren't numbered from 0 yet.
 abbrev pub IsOrderedOrReset : Watch → Bool → SentMessages → ℕ → List ℕ → List ℕ → StreamModel → Type 0
 IsOrderedOrReset watch false user id all waits stream = OrderedStream watch user.queued user.history id all waits stream
-IsOrderedOrReset watch true user id all waits stream = IsBetweenResets user.queued user.history id all × AreSeparated user.queued id watch.cuts all
+IsOrderedOrReset watch true user id all waits stream =
+    IsBetweenResets user.queued user.history id all × AreSeparated watch.asks user.queued id watch.cuts all × LeaveNoGapSent watch.asks user.queued user.history id all
 
 -- All that is held was queued, and the streams whose numbers begin at 0 are in order. `watch` is what is
 -- watched of each.
@@ -35,7 +37,7 @@ IncomingOrdered watch user quiet got base read incoming =
 
 -- It holds of an association that was just begun.
 abbrev pub BeginningInOrder : Type 0
-BeginningInOrder = (gapless : ℕ → Bool) (queued : List Message) (history : History) (quiet : ℕ → Bool) (base : ℕ) → IncomingOrdered (uncut gapless) (sent_messages queued history) quiet [] base [] nothing
+BeginningInOrder = (asks : ℕ → ℕ → Bool) (queued : List Message) (history : History) (quiet : ℕ → Bool) (base : ℕ) → IncomingOrdered (uncut asks) (sent_messages queued history) quiet [] base [] nothing
 
 -- A chunk whose TSN is new, and that carries the piece of its TSN, leaves it so.
 abbrev pub ReadyInOrder : Type 0
@@ -50,21 +52,17 @@ ReadyInOrder =
 abbrev pub NoneIsQuiet : (ℕ → Bool) → List SkippedTo → Type 0
 NoneIsQuiet quiet entries = AllByRecursion (λ entry. quiet (skipped_stream entry) ≡ false) entries
 
--- No message that was sent on these streams may be abandoned (RFC 3758).
-abbrev pub NoneLimitedOn : (ℕ → Watch) → List Slot → Type 0
-NoneLimitedOn watch log = (n : ℕ) (f : Piece) → at_place n log ≡ Some (Some f) → (watch f.message.stream).is_gapless ≡ true → f.message.is_limited ≡ false
-
--- So does an I-FORWARD-TSN, whatever it skips of what was sent on other streams than those,
+-- So does an I-FORWARD-TSN, whatever it skips,
 abbrev pub SkippingInOrder : Type 0
 SkippingInOrder =
     (watch : ℕ → Watch) (queued : List Message) (history : History) (quiet : ℕ → Bool) (got : List ℕ) (base tsn : ℕ) (read : List ℕ) (entries : List SkippedTo) (old new : IncomingModel)
-    → NoneLimitedOn watch history.log → AreNamed history entries → NoneIsQuiet quiet entries → IncomingOrdered watch (sent_messages queued history) quiet got base read old → MovesOn tsn entries old new → IncomingOrdered watch (sent_messages queued history) quiet got base read new
+    → AreNamed history entries → NoneIsQuiet quiet entries → IncomingOrdered watch (sent_messages queued history) quiet got base read old → MovesOn tsn entries old new → IncomingOrdered watch (sent_messages queued history) quiet got base read new
 
--- and a reset of streams. They are quiet from then on.
+-- and a reset of streams, where each epoch is sent in turn. They are quiet from then on.
 abbrev pub ResettingInOrder : Type 0
 ResettingInOrder =
     (watch : ℕ → Watch) (queued : List Message) (history : History) (quiet : ℕ → Bool) (got : List ℕ) (base : ℕ) (read streams : List ℕ) (old new : IncomingModel)
-    → IncomingOrdered watch (sent_messages queued history) quiet got base read old → ResetsStreams streams old new → IncomingOrdered watch (sent_messages queued history) (λ id. quiet id || names_stream streams id) got base read new
+    → ((id : ℕ) → SendsEpochsInTurn (watch id).asks queued history id) → IncomingOrdered watch (sent_messages queued history) quiet got base read old → ResetsStreams streams old new → IncomingOrdered watch (sent_messages queued history) (λ id. quiet id || names_stream streams id) got base read new
 
 -- the first message that can be read, and those after it
 pub record FirstReady : Type 0 where

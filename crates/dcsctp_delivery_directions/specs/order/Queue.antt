@@ -1,6 +1,6 @@
 -- The order in which ordered messages of a stream were queued, and the numbers of what was sent of
 -- them (RFC 9260, section 6.6; RFC 8260, section 2.1).
-use Rattle.std.specs.Prelude.{◌≡◌, ◌<◌, ◌≤◌, ℕ, zero, suc, true, false, Some, List, [], ◌∷◌, length}
+use Rattle.std.specs.Prelude.{◌≡◌, ◌<◌, ◌≤◌, ℕ, zero, suc, Bool, true, false, Some, List, [], ◌∷◌, length}
 use Rattle.dcsctp_spec_lemmas.specs.spec.endpoint.Event.{Event}
 use Rattle.dcsctp_spec_lemmas.specs.spec.queues.SendQueue.{SendQueueState}
 use Rattle.dcsctp_spec_lemmas.specs.spec.queues.Sending.{Fragment, TakesFragment}
@@ -34,7 +34,22 @@ abbrev pub LeaveNoGap : List Message → ℕ → List ℕ → Type 0
 LeaveNoGap queued id places =
     (earlier later : ℕ) → HasEntry later places → IsOrderedOn queued id later → IsOrderedOn queued id earlier → earlier < later → HasEntry earlier places
 
--- ---- resets of the stream that were performed
+-- ---- resets of the stream that were asked for
+
+-- No reset was asked for once the earlier message was queued, and before the later one was. `asks` says when so many messages were
+-- queued.
+abbrev pub AreOfOneEpoch : (ℕ → Bool) → ℕ → ℕ → Type 0
+AreOfOneEpoch asks earlier later = (count : ℕ) → earlier < count → count ≤ later → asks count ≡ false
+
+-- No ordered message of the stream has limits from the one place on, before the other.
+abbrev pub AreUnlimitedFrom : List Message → ℕ → ℕ → ℕ → Type 0
+AreUnlimitedFrom queued id from to = (place : ℕ) → from ≤ place → place < to → (on : IsOrderedOn queued id place) → on.message.is_limited ≡ false
+
+-- Of those that were queued before this place none is left out before another of its epoch, if none from that one on has limits.
+abbrev pub LeaveNoGapBefore : (ℕ → Bool) → List Message → ℕ → ℕ → List ℕ → Type 0
+LeaveNoGapBefore asks queued id end places =
+    (earlier later : ℕ) → HasEntry later places → IsOrderedOn queued id later → IsOrderedOn queued id earlier → earlier < later → later < end → AreOfOneEpoch asks earlier later
+    → AreUnlimitedFrom queued id earlier end → HasEntry earlier places
 
 -- A reset of a stream that its receiver has performed: how many messages were read or ready then, of all streams, and how many
 -- were queued when it was asked for.
@@ -48,9 +63,15 @@ Separates queued id index bound [] = Unit {0}
 Separates queued id zero bound (place ∷ places) = (IsMessageOn queued id place → bound ≤ place) × Separates queued id zero bound places
 Separates queued id (suc index) bound (place ∷ places) = (IsMessageOn queued id place → place < bound) × Separates queued id index bound places
 
--- Each of these resets separates them.
-abbrev pub AreSeparated : List Message → ℕ → List Cut → List ℕ → Type 0
-AreSeparated queued id cuts places = (cut : Cut) → HasEntry cut cuts → (cut.index ≤ length places) × Separates queued id cut.index cut.place places
+-- The reset separates them, and leaves no gap before it.
+pub record IsSeparated (asks : ℕ → Bool) (queued : List Message) (id : ℕ) (cut : Cut) (places : List ℕ) : Type 0 where
+  pub within : cut.index ≤ length places
+  pub separates : Separates queued id cut.index cut.place places
+  pub no_gap : LeaveNoGapBefore asks queued id cut.place places
+
+-- Each of these resets does.
+abbrev pub AreSeparated : (ℕ → Bool) → List Message → ℕ → List Cut → List ℕ → Type 0
+AreSeparated asks queued id cuts places = (cut : Cut) → HasEntry cut cuts → IsSeparated asks queued id cut places
 
 -- ---- what the log of a sender has
 

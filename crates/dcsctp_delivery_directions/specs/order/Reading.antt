@@ -13,7 +13,8 @@ use Rattle.dcsctp_delivery_directions.specs.sending.Log.{Message, Piece, History
 use Rattle.dcsctp_delivery_directions.specs.sending.Numbers.{AreOfKind, IsCurrent}
 use Rattle.dcsctp_delivery_directions.specs.order.Queue.{FollowsOn, Cut, AreSeparated}
 use Rattle.dcsctp_delivery_directions.specs.order.Rising.{IsAhead}
-use Rattle.dcsctp_delivery_directions.specs.order.Order.{IsReadAs, StreamInOrder, AreFilled}
+use Rattle.dcsctp_delivery_directions.specs.order.Order.{IsReadAs, StreamInOrder}
+use Rattle.dcsctp_delivery_directions.specs.order.Epochs.{AreReadByEpoch}
 
 -- The log is one of I-DATA whose numbers follow the queue, and tell its messages apart. Those of the ordered messages of this
 -- stream begin at a multiple of 2^32, and fewer than 2^31 were given since its last reset.
@@ -30,27 +31,31 @@ pub record IsInReach (stream : StreamModel) : Type 0 where
   pub from : 2 ^ 32 ≤ stream.next
   pub up_to : stream.next ≤ 2 ^ 32 + 2 ^ 31
 
--- What is watched of a stream: was nothing skipped of it, and which resets of it were performed?
+-- What is watched of a stream: when are resets of it asked for, and which were performed?
 pub record Watch : Type 0 where
-  pub is_gapless : Bool
+  pub asks : ℕ → Bool
   pub cuts : List Cut
 
--- no reset was performed
-abbrev pub uncut : (ℕ → Bool) → ℕ → Watch
-uncut gapless id = record { is_gapless = gapless id; cuts = [] }
+-- none was performed
+abbrev pub uncut : (ℕ → ℕ → Bool) → ℕ → Watch
+uncut asks id = record { asks = asks id; cuts = [] }
+
+-- a reset of each may be asked for at any time
+abbrev pub any_asked : ℕ → ℕ → Bool
+any_asked id count = true
 
 -- What was sent on the stream since its last reset was queued after each of these was asked for.
 abbrev pub ComeSince : History → ℕ → List Cut → Type 0
 ComeSince history id cuts =
     (cut : Cut) → HasEntry cut cuts → (n : ℕ) (f : Piece) → at_place n history.log ≡ Some (Some f) → f.message.stream ≡ id → IsCurrent history f → cut.place ≤ f.place
 
--- The stream is in order, with its next number in reach, and without a gap if none was skipped. Each reset of it that was performed
--- separates its messages, and what comes next was queued since.
+-- The stream is in order, with its next number in reach, and each epoch without a gap. Each reset of it that was performed separates
+-- its messages, and what comes next was queued since.
 pub record OrderedStream (watch : Watch) (queued : List Message) (history : History) (id : ℕ) (all waits : List ℕ) (stream : StreamModel) : Type 0 where
   pub order : StreamInOrder queued history id all waits stream
   pub reach : IsInReach stream
-  pub filled : watch.is_gapless ≡ true → AreFilled history id all stream.next
-  pub separated : AreSeparated queued id watch.cuts all
+  pub by_epoch : AreReadByEpoch watch.asks queued history id all stream.next
+  pub separated : AreSeparated watch.asks queued id watch.cuts all
   pub since : ComeSince history id watch.cuts
 
 -- The piece is one of an ordered message of the stream that was sent since the last reset of that.

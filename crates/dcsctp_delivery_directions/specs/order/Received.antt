@@ -1,6 +1,6 @@
 -- What an association has received, across resets of streams: ordered messages of a stream become
 -- ready in order (RFC 9260, section 6.6; RFC 8260; RFC 6525, section 5.2.2).
-use Rattle.std.specs.Prelude.{◌≡◌, ◌^◌, ℕ, Bool, true, false, List, [], length}
+use Rattle.std.specs.Prelude.{◌≡◌, ◌^◌, ℕ, Bool, false, List, [], length}
 use Rattle.dcsctp_spec_lemmas.specs.spec.queues.Incoming.{IncomingModel}
 use Rattle.dcsctp_spec_lemmas.specs.spec.queues.Reassembly.{ReassemblyState, waiting_of}
 use Rattle.dcsctp_spec_lemmas.specs.spec.queues.Tracker.{TrackerState}
@@ -16,14 +16,6 @@ use Rattle.dcsctp_delivery_directions.specs.order.Reading.{Watch}
 abbrev pub none_quiet : ℕ → Bool
 none_quiet id = false
 
--- nothing was skipped on any stream
-abbrev pub all_gapless : ℕ → Bool
-all_gapless id = true
-
--- something may have been skipped on each
-abbrev pub none_gapless : ℕ → Bool
-none_gapless id = false
-
 -- No TSN was handled yet; or the number of the first is known, and all that is held is in order.
 pub data ReassemblesInOrder
     (watch : ℕ → Watch) (user : SentMessages) (quiet : ℕ → Bool) (first : ℕ) (got read : List ℕ) (incoming : IncomingModel) : Type 0 where
@@ -32,7 +24,7 @@ pub data ReassemblesInOrder
   some_handled : (base : ℕ) → CountsFromBase first base incoming.last_tsn_number
       → IncomingOrdered watch user quiet got base read incoming → ReassemblesInOrder watch user quiet first got read incoming
 
--- All that an association has received in order whose peer has this log. Messages of other streams may have been skipped. `taken` has the offsets
+-- All that an association has received in order whose peer has this log. Messages with limits may have been skipped. `taken` has the offsets
 -- that the tracker knows, `got` those that the reassembly queue has handled, and `later` those that wait for the end of a deferred
 -- reset.
 pub record HasReceivedInOrder

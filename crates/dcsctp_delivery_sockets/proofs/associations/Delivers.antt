@@ -171,10 +171,10 @@ ends_begin calls mine options =
         idle = λ unlinked. refl;
         asks = tt;
         numbered = λ tag some anew. refl;
-        kept = λ tag some only id never. never;
+        kept = λ tag some only. record { whole = refl; keeps = λ id never. never };
         dropping = λ tag. record { dropped = λ id resets. resets; asks = refl };
         rules = fresh_takes_turns mine;
-        unbegun = λ never. record { unlinked = refl; idle = refl; zero = fresh_is_at_zero mine; all = λ id never. record { waits = λ place message at. absurd (cc); unpaused = tt } };
+        unbegun = λ never. record { unlinked = refl; idle = refl; zero = fresh_is_at_zero mine; all = λ id. record { waits = λ place message at. absurd (cc); unpaused = tt } };
         receiver = record { fits = record { first = 0; asking = nothing_asked; fits = tt }; current = λ transfer there. absurd (cc); left = inl refl; last = λ link is. absurd (cc); were_read = λ tag. refl; were_reset = λ report has. absurd has; begun = λ tag. inl refl; last_of = inl refl; reads_of = tt };
         alone = λ tag. inr (senders_begin options options 0 options.max_receiver_window_buffer_size (λ id. false) (λ id count. false));
       };
@@ -198,7 +198,7 @@ ends_begin calls mine options =
     }
   where
     nothing : SendingEnd
-    nothing = record { queued = []; queues = record { queue = empty_queue mine; transfer = None }; acknowledged = 0; sent = []; asking = nothing_asked; beginning = record { from_zero = true; keeps = calls.never; asks = calls.asks } }
+    nothing = record { queued = []; queues = record { queue = empty_queue mine; transfer = None }; acknowledged = 0; sent = []; asking = nothing_asked; beginning = record { from_zero = true; has_all = true; keeps = calls.never; asks = calls.asks } }
 
     awaits : Awaits nothing
-    awaits = record { queued = refl; sent = refl; acknowledged = refl; transfer = refl; asking = refl; begun = record { zero = λ is. fresh_at_zero mine; all = λ id is. record { waits = λ place message at. absurd (cc); unpaused = tt } } }
+    awaits = record { queued = refl; sent = refl; acknowledged = refl; transfer = refl; asking = refl; begun = record { zero = λ is. fresh_at_zero mine; whole = λ is id. record { waits = λ place message at. absurd (cc); unpaused = tt }; all = λ id is. record { waits = λ place message at. absurd (cc); unpaused = tt } } }

@@ -23,7 +23,7 @@ use Rattle.dcsctp_delivery_directions.proofs.directions.Forwards.{unlimited_forw
 use Rattle.dcsctp_delivery_directions.specs.sending.Losing.{AreUnlimited, AreUnlimitedOn}
 use Rattle.dcsctp_spec_lemmas.proofs.MarkedItemLemmas.{le_or_lt}
 use Rattle.dcsctp_delivery_directions.specs.order.Delivered.{AreDeliveredInOrder, AreDeliveredWithoutGaps}
-use Rattle.dcsctp_delivery_directions.specs.order.Queue.{IsMessageOn, IsOrderedOn, ComeInOrder, LeaveNoGap, Separates}
+use Rattle.dcsctp_delivery_directions.specs.order.Queue.{IsMessageOn, IsOrderedOn, ComeInOrder, LeaveNoGap, LeaveNoGapBefore, Separates}
 use Rattle.dcsctp_delivery_directions.specs.order.Streams.{AreDeliveredByStream, AreDeliveredOnStreams}
 use Rattle.dcsctp_delivery_directions.specs.order.Complete.{HasNothingLeft, AreAllDelivered}
 use Rattle.dcsctp_delivery_directions.proofs.order.PlainComplete.{plain_streams_arrive}
@@ -105,20 +105,6 @@ separate_unmarked marks queued id (suc index) bound (place ∷ places) (content 
   separate_unmarked marks queued id index bound places contents found were.1 apart.1,
 )
 
-cut_unmarked : (asks : ℕ → ℕ → Bool) (performed : List PerformedReset) (marks queued : List Message) (contents : List MessageContent) → AllFound marks queued → AreCutAsAsked asks performed marks contents → AreCutAsAsked asks performed queued contents
-cut_unmarked asks performed marks queued contents found d =
-    record {
-      ordered = in_order_unmarked marks queued contents found d.ordered;
-      cut = λ id reset has names. (
-          let c = d.cut id reset has names in
-          record {
-            place = c.place;
-            asked = c.asked;
-            separates = separate_unmarked marks queued id reset.index c.place d.ordered.delivered.places contents found d.ordered.delivered.were_queued c.separates;
-          }
-          );
-    }
-
 below_other : (place size : ℕ) → place < size + 1 → place ≢ size → place < size
 below_other place size below ne = elim (le_or_lt size place) [ inl after ↦ absurd (ne (omega (arith, below, after))) | inr before ↦ before ]
 
@@ -136,6 +122,44 @@ below_at place (mark ∷ marks) below =
           let m = below_at place marks (below_other place (length marks) (omega (arith, below)) ne) in
           record { mark = m.mark; at = at_stays place mark m.mark marks m.at }
     ]
+
+-- Messages of one epoch that are read leave no gap, marked or not.
+before_unmarked : (marks queued : List Message) (contents : List MessageContent) (places : List ℕ) (asks : ℕ → Bool) (id end : ℕ) → AllFound marks queued → WereQueued marks places contents → LeaveNoGapBefore asks marks id end places
+    → LeaveNoGapBefore asks queued id end places
+before_unmarked marks queued contents places asks id end found were gap earlier later has on on' before less one free =
+    let m = mark_at marks later places contents were has in
+    let first = below_at earlier marks (let below = at_below later m.mark marks m.at in omega (arith, before, below)) in
+    gap earlier later has (is_ordered marks queued id later found m on) (is_ordered marks queued id earlier found first on') before less one
+    (λ place from to mine. (let f = found place mine.message mine.at in f.is.limited ∙ free place from to (record { message = f.message; at = f.at; stream = sym f.is.stream ∙ mine.stream; ordered = sym f.is.unordered ∙ mine.ordered })))
+
+-- So it is where it is less known what the sender began with.
+cut_if : (whole all : Bool) (asks : ℕ → ℕ → Bool) (performed : List PerformedReset) (queued : List Message) (contents : List MessageContent) → (whole ≡ true → all ≡ true) → AreCutAsAsked all asks performed queued contents → AreCutAsAsked whole asks performed queued contents
+cut_if whole all asks performed queued contents so d =
+    record {
+      ordered = d.ordered;
+      cut = λ id reset has names. (let c = d.cut id reset has names in record { place = c.place; asked = c.asked; separates = c.separates; no_gap = λ is. c.no_gap (so is) });
+      no_gap = λ is. d.no_gap (so is);
+    }
+
+cut_unmarked : (whole : Bool) (asks : ℕ → ℕ → Bool) (performed : List PerformedReset) (marks queued : List Message) (contents : List MessageContent) → AllFound marks queued → length marks ≤ length queued → AreCutAsAsked whole asks performed marks contents → AreCutAsAsked whole asks performed queued contents
+cut_unmarked whole asks performed marks queued contents found short d =
+    record {
+      ordered = in_order_unmarked marks queued contents found d.ordered;
+      cut = λ id reset has names. (
+          let c = d.cut id reset has names in
+          record {
+            place = c.place;
+            asked = c.asked;
+            separates = separate_unmarked marks queued id reset.index c.place d.ordered.delivered.places contents found d.ordered.delivered.were_queued c.separates;
+            no_gap = λ is. before_unmarked marks queued contents d.ordered.delivered.places (asks id) id c.place found d.ordered.delivered.were_queued (c.no_gap is);
+          }
+          );
+      no_gap = λ is id earlier later has on on' before less one free. (
+          let m = mark_at marks later d.ordered.delivered.places contents d.ordered.delivered.were_queued has in
+          before_unmarked marks queued contents d.ordered.delivered.places (asks id) id (length marks) found d.ordered.delivered.were_queued (d.no_gap is id) earlier later has on on' before (at_below later m.mark marks m.at) one
+          (λ place from to. free place from (omega (arith, to, short)))
+          );
+    }
 
 -- Messages that were marked have no limits either.
 unlimited_at : (queued : List Message) (place : ℕ) (message : Message) → AreUnlimited queued → at_place place queued ≡ Some message → message.is_limited ≡ false
@@ -285,32 +309,48 @@ module _ (options : Options) (ends : Ends) (e : Endpoint) (queued : List Message
   nothing_performed tag (inl nought) = elim (h.receiver.begun tag) [ inl new ↦ ap (λ (g : ReceivingEnd). g.performed) new | inr had ↦ absurd (had.some nought) ]
   nothing_performed tag (inr waits) = none_performed options (ends.firsts tag) options.max_receiver_window_buffer_size (own tag) (h.runs tag) (ap (λ (a : Asking). a.requests) waits.asking)
 
-  pub ends_cut_as_asked : (tag : ℕ) → NumbersFromZero e past tag → InterleavesUnder past tag → AreCutAsAsked ends.calls.asks (ends.gets tag).performed queued (with_key tag reading.reads)
-  ends_cut_as_asked tag anew interleaves =
+  -- The resets of this tag are cuts, without gaps if that is known of its sender.
+  cut_so : (whole : Bool) (tag : ℕ) → (tag ≢ 0 → whole ≡ true → (ends.sends tag).beginning.has_all ≡ true) → NumbersFromZero e past tag → InterleavesUnder past tag
+      → AreCutAsAsked whole ends.calls.asks (ends.gets tag).performed queued (with_key tag reading.reads)
+  cut_so whole tag all anew interleaves =
       elim (decide tag 0) [
         | inl nought ↦ uncut (none_at_zero tag nought) (nothing_performed tag (inl nought))
         | inr some ↦ elim (h.sender.kinds tag some) [
           | inl waits ↦ uncut (none_awaited tag waits) (nothing_performed tag (inr waits))
           | inr had ↦
-              cut_unmarked ends.calls.asks (ends.gets tag).performed (ends.sends tag).queued queued (with_key tag reading.reads) (h.sender.marks tag)
-              (subst (AreCutAsAsked ends.calls.asks (ends.gets tag).performed (ends.sends tag).queued) (sym (h.receiver.were_read tag))
-              (subst (λ (asks : ℕ → ℕ → Bool). AreCutAsAsked asks (ends.gets tag).performed (ends.sends tag).queued (ends.gets tag).read) (h.dropping tag).asks
+              cut_unmarked whole ends.calls.asks (ends.gets tag).performed (ends.sends tag).queued queued (with_key tag reading.reads) (h.sender.marks tag) (h.sender.short tag)
+              (cut_if whole (ends.sends tag).beginning.has_all ends.calls.asks (ends.gets tag).performed (ends.sends tag).queued (with_key tag reading.reads) (all some)
+              (subst (AreCutAsAsked (ends.sends tag).beginning.has_all ends.calls.asks (ends.gets tag).performed (ends.sends tag).queued) (sym (h.receiver.were_read tag))
+              (subst (λ (asks : ℕ → ℕ → Bool). AreCutAsAsked (ends.sends tag).beginning.has_all asks (ends.gets tag).performed (ends.sends tag).queued (ends.gets tag).read) (h.dropping tag).asks
               (directions_cut_as_asked options (ends.firsts tag) options.max_receiver_window_buffer_size (own tag) (h.runs tag) (h.small tag) (little tag) (short tag)
-              (sym (had.kind_is interleaves.0 interleaves.1 interleaves.2) ∙ interleaves.3) (h.numbered tag some anew))))
+              (sym (had.kind_is interleaves.0 interleaves.1 interleaves.2) ∙ interleaves.3) (h.numbered tag some anew)))))
         ]
       ]
     where
-      uncut : with_key tag reading.reads ≡ [] → (ends.gets tag).performed ≡ [] → AreCutAsAsked ends.calls.asks (ends.gets tag).performed queued (with_key tag reading.reads)
+      no_place : (places : List ℕ) (contents : List MessageContent) → contents ≡ [] → WereQueued queued places contents → (place : ℕ) → HasEntry place places → ⊥
+      no_place [] contents none were place has = has
+      no_place (p ∷ places) [] none were place has = were
+      no_place (p ∷ places) (c ∷ contents) none were place has = absurd (cc)
+
+      uncut : with_key tag reading.reads ≡ [] → (ends.gets tag).performed ≡ [] → AreCutAsAsked whole ends.calls.asks (ends.gets tag).performed queued (with_key tag reading.reads)
       uncut none none' =
+          let ordered : AreDeliveredInOrder queued (with_key tag reading.reads) = nothing_in_order queued (with_key tag reading.reads) none in
           record {
-            ordered = nothing_in_order queued (with_key tag reading.reads) none;
+            ordered = ordered;
             cut = λ id reset has. absurd (subst (HasEntry reset) none' has);
+            no_gap = λ is id earlier later has. absurd (no_place ordered.delivered.places (with_key tag reading.reads) none ordered.delivered.were_queued later has);
           }
+
+  pub ends_cut_as_asked : (tag : ℕ) → NumbersFromZero e past tag → InterleavesUnder past tag → AreCutAsAsked false ends.calls.asks (ends.gets tag).performed queued (with_key tag reading.reads)
+  ends_cut_as_asked tag = cut_so false tag (λ some is. absurd (cc))
+
+  pub ends_cut_without_gaps : (tag : ℕ) → IsOnlyOwn past tag → InterleavesUnder past tag → AreCutAsAsked true ends.calls.asks (ends.gets tag).performed queued (with_key tag reading.reads)
+  ends_cut_without_gaps tag only = cut_so true tag (λ some is. (h.kept tag some only).whole) (inr only)
 
   pub ends_deliver_by_stream : (tag : ℕ) → IsOnlyOwn past tag → InterleavesUnder past tag → AreDeliveredByStream ends.calls.never queued (with_key tag reading.reads)
   ends_deliver_by_stream tag only interleaves =
       by_begun tag (nothing_by_stream ends.calls.never queued (with_key tag reading.reads))
-      (λ some had. by_stream_unmarked (ends.sends tag).beginning.keeps ends.calls.never (ends.sends tag).queued queued (with_key tag reading.reads) (h.sender.marks tag) (h.kept tag some only)
+      (λ some had. by_stream_unmarked (ends.sends tag).beginning.keeps ends.calls.never (ends.sends tag).queued queued (with_key tag reading.reads) (h.sender.marks tag) (h.kept tag some only).keeps
       (subst (AreDeliveredByStream (ends.sends tag).beginning.keeps (ends.sends tag).queued) (sym (h.receiver.were_read tag))
       (streams_deliver_without_gaps options (ends.firsts tag) options.max_receiver_window_buffer_size (own tag) (h.runs tag) (h.small tag) (little tag) (short tag)
       (sym (had.kind_is interleaves.0 interleaves.1 interleaves.2) ∙ interleaves.3) (h.numbered tag some (inr only)))))
@@ -346,11 +386,11 @@ module _ (options : Options) (ends : Ends) (e : Endpoint) (queued : List Message
           record {
             delivered = d.ordered.delivered;
             in_order = λ id mine. d.ordered.in_order id;
-            no_gap = λ id mine. d.no_gap id (h.kept tag some only id (reliable id mine).never) (unlimited_on_marks id (ends.sends tag).queued queued (h.sender.marks tag) (reliable id mine).unlimited);
+            no_gap = λ id mine. d.no_gap id ((h.kept tag some only).keeps id (reliable id mine).never) (unlimited_on_marks id (ends.sends tag).queued queued (h.sender.marks tag) (reliable id mine).unlimited);
           }
       own_on tag some only false is =
           plain_streams_deliver_without_gaps these options (ends.firsts tag) options.max_receiver_window_buffer_size (own tag) (h.runs tag) (h.small tag) (little tag) (short tag) room is (h.numbered tag some (inr only))
-          (λ id mine. record { keeps = h.kept tag some only id (reliable id mine).never; unlimited = unlimited_on_marks id (ends.sends tag).queued queued (h.sender.marks tag) (reliable id mine).unlimited })
+          (λ id mine. record { keeps = (h.kept tag some only).keeps id (reliable id mine).never; unlimited = unlimited_on_marks id (ends.sends tag).queued queued (h.sender.marks tag) (reliable id mine).unlimited })
 
       pub ends_deliver_on_streams : (tag : ℕ) → IsOnlyOwn past tag → AreDeliveredOnStreams these queued (with_key tag reading.reads)
       ends_deliver_on_streams tag only =
@@ -387,7 +427,7 @@ module _ (options : Options) (ends : Ends) (e : Endpoint) (queued : List Message
               (plain_streams_arrive these options (ends.firsts through.link.my.tag) options.max_receiver_window_buffer_size (own through.link.my.tag) (h.runs through.link.my.tag) (h.small through.link.my.tag)
               (little through.link.my.tag) (short through.link.my.tag) room kind (h.numbered through.link.my.tag some (inr only))
               (λ id mine. record {
-                keeps = h.kept through.link.my.tag some only id (reliable id mine).never;
+                keeps = (h.kept through.link.my.tag some only).keeps id (reliable id mine).never;
                 unlimited = unlimited_on_marks id (ends.sends through.link.my.tag).queued queued (h.sender.marks through.link.my.tag) (reliable id mine).unlimited;
               })
               (subst HasNothingLeft (sym queues_are) through.left) ready))
@@ -397,10 +437,10 @@ module _ (options : Options) (ends : Ends) (e : Endpoint) (queued : List Message
         → AreDeliveredWithoutGaps (ends.sends tag).queued (ends.gets tag).read
     own_front are tag some never only true is =
         directions_deliver_without_gaps options (ends.firsts tag) options.max_receiver_window_buffer_size (own tag) (h.runs tag) (h.small tag) (little tag) (short tag) is
-        (h.numbered tag some (inr only)) (λ id. h.kept tag some only id (never id)) (unlimited are tag)
+        (h.numbered tag some (inr only)) (λ id. (h.kept tag some only).keeps id (never id)) (unlimited are tag)
     own_front are tag some never only false is =
         plain_directions_deliver_without_gaps options (ends.firsts tag) options.max_receiver_window_buffer_size (own tag) (h.runs tag) (h.small tag) (little tag) (short tag) room is
-        (h.numbered tag some (inr only)) (λ id. h.kept tag some only id (never id)) (unlimited are tag)
+        (h.numbered tag some (inr only)) (λ id. (h.kept tag some only).keeps id (never id)) (unlimited are tag)
 
     pub ends_deliver_without_gaps : AreUnlimited queued → ((id : ℕ) → ends.calls.never id ≡ true) → (tag : ℕ) → IsOnlyOwn past tag → AreDeliveredWithoutGaps queued (with_key tag reading.reads)
     ends_deliver_without_gaps are never tag only =

@@ -173,19 +173,22 @@ module _ (options : Options) (ends : Ends) (e : Endpoint) (queued : List Message
 
   -- Do the numbers of each stream begin at 0, and does it begin with all that was queued?
   abbrev pub begins_anew : Beginning
-  begins_anew = record { from_zero = e.options.follow_rfc || never_held past; keeps = λ id. ends.calls.never id && never_held past; asks = ends.calls.asks }
+  begins_anew = record { from_zero = e.options.follow_rfc || never_held past; has_all = never_held past; keeps = λ id. ends.calls.never id && never_held past; asks = ends.calls.asks }
 
   -- So it does.
   pub begins_so : BeginsAs begins_anew marks begun.queue
-  begins_so = record { zero = go e.options.follow_rfc (never_held past) refl refl; all = λ id. all_wait id (ends.calls.never id) (never_held past) refl refl }
+  begins_so = record { zero = go e.options.follow_rfc (never_held past) refl refl; whole = whole_wait; all = λ id. all_wait id (ends.calls.never id) (never_held past) refl }
     where
-      all_wait : (id : ℕ) (resets never : Bool) → ends.calls.never id ≡ resets → never_held past ≡ never → (resets && never) ≡ true → AllWaitOn id marks begun.queue.streams
-      all_wait id true true is none is_so =
+      whole_wait : never_held past ≡ true → (id : ℕ) → AllWaitOn id marks begun.queue.streams
+      whole_wait none id =
           let before = h.unbegun (none_held past none) in
           let end : SendingEnd = ends.sends (sender_key e.core) in
-          all_wait_marked id (length end.queued) end.queues.queue.streams end.queued begun.queue.streams (unbegun_begins_waiting e o begun id end.queued before.zero (before.all id is))
-      all_wait id true false is none is_so = absurd (cc)
-      all_wait id false never is none is_so = absurd (cc)
+          all_wait_marked id (length end.queued) end.queues.queue.streams end.queued begun.queue.streams (unbegun_begins_waiting e o begun id end.queued before.zero (before.all id))
+
+      all_wait : (id : ℕ) (resets never : Bool) → never_held past ≡ never → (resets && never) ≡ true → AllWaitOn id marks begun.queue.streams
+      all_wait id true true none is_so = whole_wait none id
+      all_wait id true false none is_so = absurd (cc)
+      all_wait id false never none is_so = absurd (cc)
 
       go : (follows_it never : Bool) → e.options.follow_rfc ≡ follows_it → never_held past ≡ never → (follows_it || never) ≡ true → BeginsAtZero begun.queue
       go true never is none is_so = begun_at_zero e o begun is
@@ -205,7 +208,10 @@ module _ (options : Options) (ends : Ends) (e : Endpoint) (queued : List Message
       → KeepsThese ends.calls (table_with begun.my.tag end ends.sends tag).beginning
   kept_anew is end here =
       set_all (λ tag s. tag ≢ 0 → IsOnlyOwn (after_effects o.effects past) tag → KeepsThese ends.calls s.beginning) begun.my.tag end ends.sends
-      (λ some only id never. ap (λ (b : Beginning). b.keeps id) here ∙ ap (λ (b : Bool). b && never_held past) never ∙ first_of_all is only)
+      (λ some only. record {
+        whole = ap (λ (b : Beginning). b.has_all) here ∙ first_of_all is only;
+        keeps = λ id never. ap (λ (b : Beginning). b.keeps id) here ∙ ap (λ (b : Bool). b && never_held past) never ∙ first_of_all is only;
+      })
       (λ tag ne some only. absurd (ne (sym (only new new_held))))
 
   pub dropping_anew : (end : SendingEnd) → end.beginning ≡ begins_anew → (tag : ℕ) → KeepsOnlyThese ends.calls (table_with begun.my.tag end ends.sends tag).beginning
@@ -353,7 +359,7 @@ module _ (options : Options) (ends : Ends) (e : Endpoint) (queued : List Message
       (subst (λ (g : ReceivingEnd). DirectionRun options first options.max_receiver_window_buffer_size (direction_of_ends (unbegun_end options) g)) (sym (set_same to (new_end options first) ends.gets))
       (senders_begin options options first options.max_receiver_window_buffer_size (λ id. false) (λ id count. false))) in
       let run = later options options.max_receiver_window_buffer_size
-      (new_direction options first options.max_receiver_window_buffer_size [] (record { queue = empty_queue options; transfer = None }) 0 [] (record { from_zero = true; keeps = λ id. false; asks = λ id count. false })) marks begins_anew shown fit (senders_begin options options first options.max_receiver_window_buffer_size (λ id. false) (λ id count. false))
+      (new_direction options first options.max_receiver_window_buffer_size [] (record { queue = empty_queue options; transfer = None }) 0 [] (record { from_zero = true; has_all = true; keeps = λ id. false; asks = λ id count. false })) marks begins_anew shown fit (senders_begin options options first options.max_receiver_window_buffer_size (λ id. false) (λ id count. false))
       (record { queued = refl; sent = refl; acknowledged = refl; transfer = refl; asking = refl }) begins_so in
       let end : SendingEnd = renewed_end ends (sender_key e.core) (peer_tag e.core) e.queues queued past packets h.sender o.effects to begun.held.peer.tag o.after.queues run.0 ps run.1 begins_anew gets firsts None in
       let ends' : Ends = renewed_ends ends (sender_key e.core) (peer_tag e.core) e.queues queued past packets h.sender o.effects to begun.held.peer.tag o.after.queues run.0 ps run.1 begins_anew gets firsts None in

@@ -62,7 +62,7 @@ all_wait_marked id count marking queued streams all =
 
 unbegun_marked : (calls : ResetCalls) (count : ℕ) (marking : List Stream) (queued : List Message) (e : Endpoint) → IsUnbegun calls queued e → IsUnbegun calls (all_marked count marking queued) e
 unbegun_marked calls count marking queued e u =
-    record { unlinked = u.unlinked; idle = u.idle; zero = u.zero; all = λ id never. all_wait_marked id count marking queued e.queues.queue.streams (u.all id never) }
+    record { unlinked = u.unlinked; idle = u.idle; zero = u.zero; all = λ id. all_wait_marked id count marking queued e.queues.queue.streams (u.all id) }
 
 module _ (options : Options) (ends : Ends) (e : Endpoint) (queued : List Message) (past : List Effect) (packets : List Emission) (d : Endpoint) (their_past : List Effect) (reading : Reading)
     (h : Between options ends (sending_side e queued past packets) (receiving_side d their_past reading)) (input : Input) (o : Outcome) where
@@ -139,7 +139,7 @@ module _ (options : Options) (ends : Ends) (e : Endpoint) (queued : List Message
       → last.queue.is_interleaved ≡ e.queues.queue.is_interleaved → Ends
   ended_ends none_began last acknowledged asking addressed kind =
       renewed_ends (grown_ends ends (sender_key e.core) (peer_tag e.core) e.queues queued past packets h.sender o.effects more last acknowledged (packets_of_events o.events) asking) (sender_key e.core) (peer_tag e.core) last (more ++ queued) (after_effects o.effects past)
-      (packets ++ packets_of_events o.events) (grown ends (sender_key e.core) (peer_tag e.core) e.queues queued past packets h.sender o.effects more last acknowledged (packets_of_events o.events) asking addressed kind none_began) [] 0 0 o.after.queues 0 [] nothing_asked (record { from_zero = false; keeps = λ id. false; asks = ends.calls.asks }) ends.gets ends.firsts None
+      (packets ++ packets_of_events o.events) (grown ends (sender_key e.core) (peer_tag e.core) e.queues queued past packets h.sender o.effects more last acknowledged (packets_of_events o.events) asking addressed kind none_began) [] 0 0 o.after.queues 0 [] nothing_asked (record { from_zero = false; has_all = false; keeps = λ id. false; asks = ends.calls.asks }) ends.gets ends.firsts None
 
   pub ended : (seen : List (Event Emission)) → AreSeen ends d their_past seen → AreAnswered ends e past d their_past → (none_began : (each : AssociationIdentity) → HasEffect (holds each) (after_effects o.effects past) → HasEffect (holds each) past) → o.after.options.follow_rfc ≡ e.options.follow_rfc → TakesTurnsByOption o.after → (NeverHeld (after_effects o.effects past) → IsUnbegun ends.calls (queued_after e input (ends.sends (sender_key e.core)).queued) o.after) → identity_of_core o.after.core ≡ None → (addressed : AreAddressed (peer_tag e.core) (packets_of_events o.events)) → (last : EndpointQueues) → (kind : last.queue.is_interleaved ≡ e.queues.queue.is_interleaved) → o.after.queues ≡ record last { transfer = None }
       → QueueWaits (queued_after e input (ends.sends (sender_key e.core)).queued) last.queue → AllByRecursion Fits (queued_after e input (ends.sends (sender_key e.core)).queued) → (acknowledged : ℕ) (asking : Asking) → RequestsStay (ends.sends (sender_key e.core)).asking asking
@@ -153,11 +153,11 @@ module _ (options : Options) (ends : Ends) (e : Endpoint) (queued : List Message
       let end : SendingEnd = grown_end ends key (peer_tag e.core) e.queues queued past packets h.sender o.effects more last acknowledged ps asking in
       let middle : Ends = grown_ends ends key (peer_tag e.core) e.queues queued past packets h.sender o.effects more last acknowledged ps asking in
       let first : Sender middle key (peer_tag e.core) last (more ++ queued) (after_effects o.effects past) (packets ++ ps) = grown ends key (peer_tag e.core) e.queues queued past packets h.sender o.effects more last acknowledged ps asking addressed kind none_began in
-      let marked : List Message = marked_queue middle key (peer_tag e.core) last (more ++ queued) (after_effects o.effects past) (packets ++ ps) first [] 0 0 o.after.queues 0 [] nothing_asked (record { from_zero = false; keeps = λ id. false; asks = ends.calls.asks }) ends.gets ends.firsts None in
-      let later : Ends = renewed_ends middle key (peer_tag e.core) last (more ++ queued) (after_effects o.effects past) (packets ++ ps) first [] 0 0 o.after.queues 0 [] nothing_asked (record { from_zero = false; keeps = λ id. false; asks = ends.calls.asks }) ends.gets ends.firsts None in
-      let new : SendingEnd = renewed_end middle key (peer_tag e.core) last (more ++ queued) (after_effects o.effects past) (packets ++ ps) first [] 0 0 o.after.queues 0 [] nothing_asked (record { from_zero = false; keeps = λ id. false; asks = ends.calls.asks }) ends.gets ends.firsts None in
+      let marked : List Message = marked_queue middle key (peer_tag e.core) last (more ++ queued) (after_effects o.effects past) (packets ++ ps) first [] 0 0 o.after.queues 0 [] nothing_asked (record { from_zero = false; has_all = false; keeps = λ id. false; asks = ends.calls.asks }) ends.gets ends.firsts None in
+      let later : Ends = renewed_ends middle key (peer_tag e.core) last (more ++ queued) (after_effects o.effects past) (packets ++ ps) first [] 0 0 o.after.queues 0 [] nothing_asked (record { from_zero = false; has_all = false; keeps = λ id. false; asks = ends.calls.asks }) ends.gets ends.firsts None in
+      let new : SendingEnd = renewed_end middle key (peer_tag e.core) last (more ++ queued) (after_effects o.effects past) (packets ++ ps) first [] 0 0 o.after.queues 0 [] nothing_asked (record { from_zero = false; has_all = false; keeps = λ id. false; asks = ends.calls.asks }) ends.gets ends.firsts None in
       let second : Sender later 0 0 o.after.queues (more ++ queued) (after_effects o.effects past) ((packets ++ ps) ++ []) =
-      renewed middle key (peer_tag e.core) last (more ++ queued) (after_effects o.effects past) (packets ++ ps) first [] 0 0 o.after.queues 0 [] nothing_asked (record { from_zero = false; keeps = λ id. false; asks = ends.calls.asks }) ends.gets ends.firsts None (λ each has same. absurd ((first.known each has).0 same)) (none_former (ends.former 0) refl) (λ some. absurd (some refl)) (λ tag ne. refl) tt (λ some. absurd (some refl)) (inl refl)
+      renewed middle key (peer_tag e.core) last (more ++ queued) (after_effects o.effects past) (packets ++ ps) first [] 0 0 o.after.queues 0 [] nothing_asked (record { from_zero = false; has_all = false; keeps = λ id. false; asks = ends.calls.asks }) ends.gets ends.firsts None (λ each has same. absurd ((first.known each has).0 same)) (none_former (ends.former 0) refl) (λ some. absurd (some refl)) (λ tag ne. refl) tt (λ some. absurd (some refl)) (inl refl)
       (λ former is. absurd (cc)) (λ each has. inl (has, (first.known each has).0)) in
       let adds : queued_after e input (ends.sends key).queued ≡ end.queued = input_adds e input (ends.sends key).queued in
       let shown' : QueueWaits end.queued last.queue = subst (λ (l : List Message). QueueWaits l last.queue) adds shown in

@@ -243,7 +243,7 @@ module _ (options : Options) (ends : Ends) (e : Endpoint) (queued : List Message
             unlinked = unlinked;
             idle = idle;
             zero = at;
-            all = λ id never_so. waits id (ends.sends key).queued (waits_before few) (few_queued few) (resets.never id never_so) (before.all id never_so);
+            all = λ id. waits id (ends.sends key).queued (waits_before few) (few_queued few) (before.all id);
           }
       go before (begins_first begun opening linked) =
           absurd (never (identity_of begun.my begun.held) (subst (λ (l : List Effect). HasEffect (holds (identity_of begun.my begun.held)) (after_effects l past)) (sym begun.noted)

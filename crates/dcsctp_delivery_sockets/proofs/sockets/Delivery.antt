@@ -34,9 +34,9 @@ use Rattle.dcsctp_delivery_sockets.specs.sockets.UserMessages.{messages_of_turns
 use Rattle.dcsctp_delivery_sockets.specs.sockets.Delivery.{FitsStep, AreInMemory, MatchOrUnmatched, SendsLittle, SendsLittleTogether, TurnsAllowDelivery, Delivers, SocketsDeliver, IsOfNewTagsBut}
 use Rattle.dcsctp_delivery_sockets.proofs.associations.Delivers.{ends_begin, ends_deliver}
 use Rattle.dcsctp_delivery_sockets.specs.sockets.Acts.{ResetsThrough}
-use Rattle.dcsctp_delivery_sockets.specs.sockets.Epochs.{HasReset, ReportsPeerReset, IsDeliveredByEpoch}
+use Rattle.dcsctp_delivery_sockets.specs.sockets.Epochs.{HasReset, ReportsPeerReset, IsDeliveredByEpoch, IsDeliveredInEpochs}
 use Rattle.dcsctp_delivery_sockets.proofs.sockets.AskedResets.{asked_through, asked_first, asked_later, has_reset_so}
-use Rattle.dcsctp_delivery_sockets.proofs.sockets.Epochs.{is_by_epoch}
+use Rattle.dcsctp_delivery_sockets.proofs.sockets.Epochs.{is_by_epoch, is_in_epochs}
 use Rattle.dcsctp_delivery_directions.specs.sending.Log.{Message}
 use Rattle.dcsctp_delivery_sockets.specs.turns.Actions.{queued_after, resets_streams, resets_stream}
 use Rattle.std.specs.List.{AllByRecursion}
@@ -483,6 +483,12 @@ module _ (reset_calls : ResetCalls) (mine theirs : Options) (turns others : List
       is_by_epoch reset_calls mine theirs turns others h (few_queued mine turns little) few_went (peers_differ mine (recorded_past others) (recorded_past turns) each) (peers_differ theirs (recorded_past turns) (recorded_past others) their_each)
       sent_all sent_same asked rules tag starts interleaves
 
+  one_in_epochs : ((stream count : ℕ) → reset_calls.asks stream count ≡ true → HasReset mine turns stream count) → (tag : ℕ) → HasOneTag (recorded_past turns) → Interleaves (recorded_past turns) tag
+      → IsDeliveredInEpochs (HasReset mine turns) (ReportsPeerReset theirs others tag) sent_all (read_under tag theirs others)
+  one_in_epochs asked tag only interleaves =
+      is_in_epochs reset_calls mine theirs turns others h (few_queued mine turns little) few_went (peers_differ mine (recorded_past others) (recorded_past turns) each) (peers_differ theirs (recorded_past turns) (recorded_past others) their_each)
+      sent_all sent_same asked tag only interleaves
+
 pub sockets_deliver : DeliveryLaws → SocketsReportEffects → SocketsDeliver
 sockets_deliver law told options run are in_memory runs honest fresh allows side =
     both_deliver (both_stand law.below law.answers (both_calls options turns) options run are runs honest fresh in_memory known) side
@@ -507,6 +513,7 @@ sockets_deliver law told options run are in_memory runs honest fresh allows side
           complete = one_complete (calls_of options.b turns.b) options.b options.a turns.b turns.a (allows.little sides.B) (allows.together sides.B) h.to_a (window sides.A) known.b.tags known.a.tags (λ stream is. is);
           shared_resets = resets_shared (events_of turns.a) turns.b (told options run are runs sides.B) h.b_resets;
           by_epoch = one_by_epoch (calls_of options.b turns.b) options.b options.a turns.b turns.a (allows.little sides.B) (allows.together sides.B) h.to_a (window sides.A) known.b.tags known.a.tags (same_rules_after (calls_of options.b turns.b) options.b turns.b known.b) (has_reset_so options.b turns.b);
+          in_epochs = one_in_epochs (calls_of options.b turns.b) options.b options.a turns.b turns.a (allows.little sides.B) (allows.together sides.B) h.to_a (window sides.A) known.b.tags known.a.tags (has_reset_so options.b turns.b);
         }
     both_deliver h sides.B =
         record {
@@ -518,4 +525,5 @@ sockets_deliver law told options run are in_memory runs honest fresh allows side
           complete = one_complete (calls_of options.a turns.a) options.a options.b turns.a turns.b (allows.little sides.A) (allows.together sides.A) h.to_b (window sides.B) known.a.tags known.b.tags (λ stream is. is);
           shared_resets = resets_shared (events_of turns.b) turns.a (told options run are runs sides.A) h.a_resets;
           by_epoch = one_by_epoch (calls_of options.a turns.a) options.a options.b turns.a turns.b (allows.little sides.A) (allows.together sides.A) h.to_b (window sides.B) known.a.tags known.b.tags (same_rules_after (calls_of options.a turns.a) options.a turns.a known.a) (has_reset_so options.a turns.a);
+          in_epochs = one_in_epochs (calls_of options.a turns.a) options.a options.b turns.a turns.b (allows.little sides.A) (allows.together sides.A) h.to_b (window sides.B) known.a.tags known.b.tags (has_reset_so options.a turns.a);
         }

@@ -1,5 +1,5 @@
 -- Each reset that a user is told of splits what it reads, where the other user asked for it.
-use Rattle.std.proofs.Common.{◌≡◌, ℕ, zero, suc, true, ◌<◌, ◌+◌, ◌^◌, List, [], ◌∷◌, ◌++◌, length, sym, ◌∙◌, ap, subst, inl, inr}
+use Rattle.std.proofs.Common.{◌≡◌, ℕ, zero, suc, Bool, true, false, ◌<◌, ◌≤◌, ◌+◌, ◌^◌, List, [], ◌∷◌, ◌++◌, length, refl, sym, ◌∙◌, ap, subst, inl, inr}
 use Rattle.dcsctp_spec_lemmas.specs.types.declared.options.Options.{Options}
 use Rattle.dcsctp_spec_lemmas.specs.types.queues.Messages.{MessageContent}
 use Rattle.dcsctp_spec_lemmas.specs.spec.endpoint.CallTurns.{Transition}
@@ -10,25 +10,36 @@ use Rattle.dcsctp_theorem_sockets.specs.Agreement.{recorded_past}
 use Rattle.dcsctp_delivery_directions.specs.sending.Log.{Message}
 use Rattle.dcsctp_delivery_directions.specs.sending.Places.{HasEntry}
 use Rattle.dcsctp_delivery_directions.specs.sending.ChunkCounts.{chunks_to}
-use Rattle.dcsctp_delivery_directions.specs.order.Queue.{Separates}
+use Rattle.dcsctp_delivery_directions.specs.order.Queue.{Separates, LeaveNoGapBefore}
 use Rattle.dcsctp_delivery_directions.specs.epochs.Asked.{AreCutAsAsked}
 use Rattle.dcsctp_delivery_sockets.specs.associations.Ends.{ResetCalls, HadBoth, chunks_before, NumbersFromZero}
 use Rattle.dcsctp_delivery_sockets.specs.associations.InOrder.{Interleaves}
 use Rattle.dcsctp_delivery_sockets.specs.associations.Reads.{ReadMessage, ReportedReset, Reading, nothing_read, tagged_after, reached_index, with_tag, with_key}
-use Rattle.dcsctp_delivery_sockets.proofs.associations.InOrder.{ends_cut_as_asked}
+use Rattle.dcsctp_delivery_sockets.proofs.associations.InOrder.{ends_cut_as_asked, ends_cut_without_gaps}
 use Rattle.dcsctp_delivery_sockets.proofs.associations.Tagged.{PeersDiffer, ReadUnder, nothing_under, under_key, read_under_key, read_among, crossed_reset, one_key}
-use Rattle.dcsctp_delivery_sockets.specs.sockets.Epochs.{HasReset, ReportsPeerReset, ready_count, AreSplit, IsDeliveredByEpoch}
-use Rattle.dcsctp_delivery_sockets.specs.sockets.Ordered.{StartsAtZero, read_under}
+use Rattle.dcsctp_delivery_sockets.specs.sockets.Epochs.{HasReset, ReportsPeerReset, ready_count, AreSplit, IsDeliveredByEpoch, HaveNoGapBefore, IsDeliveredInEpochs}
+use Rattle.dcsctp_delivery_sockets.specs.sockets.Ordered.{HasOneTag, StartsAtZero, read_under}
 use Rattle.dcsctp_delivery_sockets.specs.sockets.Packets.{reading_through}
 use Rattle.dcsctp_delivery_sockets.proofs.sockets.Stands.{Stand, queued_of, packets_of, reading_of, reading_more}
 use Rattle.dcsctp_delivery_sockets.proofs.sockets.ToldResets.{told_report, reads_more}
-use Rattle.dcsctp_delivery_sockets.proofs.sockets.UserMessages.{SaysSame, message_on, is_in_order}
+use Rattle.dcsctp_delivery_sockets.proofs.sockets.UserMessages.{SaysSame, ordered_on, message_on, sent_on, is_in_order}
 
 -- What separates what was queued splits what was sent.
 split_of : (queued : List Message) (sent : List Sending) (same : SaysSame (λ sending. sending) queued sent) (stream index count : ℕ) (places : List ℕ) → Separates queued stream index count places → AreSplit sent stream index count places
 split_of queued sent same stream index count [] apart = tt
 split_of queued sent same stream zero count (place ∷ places) apart = ((λ on. apart.0 (message_on queued sent same stream place on)), split_of queued sent same stream zero count places apart.1)
 split_of queued sent same stream (suc index) count (place ∷ places) apart = ((λ on. apart.0 (message_on queued sent same stream place on)), split_of queued sent same stream index count places apart.1)
+
+-- What leaves no gap in what was queued leaves none in what was sent.
+no_gap_of : (queued : List Message) (sent : List Sending) (same : SaysSame (λ sending. sending) queued sent) (stream end : ℕ) (places : List ℕ) (asks : ℕ → Bool) (asked : ℕ → Type 0) → ((count : ℕ) → asks count ≡ true → asked count)
+    → LeaveNoGapBefore asks queued stream end places → HaveNoGapBefore asked sent stream end places
+no_gap_of queued sent same stream end places asks asked calls gap earlier later has on on' before less one free =
+    gap earlier later has (ordered_on queued sent same stream later on) (ordered_on queued sent same stream earlier on') before less (λ count from to. unasked count (asks count) refl from to)
+    (λ place from to mine. (let was = sent_on queued sent same stream place mine in was.limits ∙ free place from to was.on))
+  where
+    unasked : (count : ℕ) (b : Bool) → asks count ≡ b → earlier < count → count ≤ later → b ≡ false
+    unasked count false is from to = refl
+    unasked count true is from to = absurd (one count (calls count is) from to)
 
 module _ (reset_calls : ResetCalls) (mine theirs : Options) (turns others : List Transition) (h : Stand reset_calls mine theirs turns others) (few : length (queued_of mine turns) < 2 ^ 64)
     (went : (tag : ℕ) → chunks_before (h.ends.former tag) (packets_of turns) + chunks_to (h.ends.latest tag) (packets_of turns) < 2 ^ 30)
@@ -86,9 +97,9 @@ module _ (reset_calls : ResetCalls) (mine theirs : Options) (turns others : List
     Delivered read = IsDeliveredByEpoch (HasReset mine turns) (ReportsPeerReset theirs others tag) sent read
 
     -- what is performed under a tag of the sender
-    cuts : (key : ℕ) → HadBoth (recorded_past turns) key tag → AreCutAsAsked reset_calls.asks (h.ends.gets key).performed (queued_of mine turns) (with_key key (reading_of theirs others).reads)
+    cuts : (key : ℕ) → HadBoth (recorded_past turns) key tag → AreCutAsAsked false reset_calls.asks (h.ends.gets key).performed (queued_of mine turns) (with_key key (reading_of theirs others).reads)
     cuts key both =
-        subst (λ (calls : ResetCalls). AreCutAsAsked calls.asks (h.ends.gets key).performed (queued_of mine turns) (with_key key (reading_of theirs others).reads)) h.is
+        subst (λ (calls : ResetCalls). AreCutAsAsked false calls.asks (h.ends.gets key).performed (queued_of mine turns) (with_key key (reading_of theirs others).reads)) h.is
         (ends_cut_as_asked theirs h.ends (endpoint_after mine turns) (queued_of mine turns) (recorded_past turns) (packets_of turns) (endpoint_after theirs others) (recorded_past others) (reading_of theirs others) h.between
         few went key anew (both.link, both.held, both.tag_is, interleaves both.link both.held both.peer_is))
       where
@@ -129,3 +140,57 @@ module _ (reset_calls : ResetCalls) (mine theirs : Options) (turns others : List
         go : ReadUnder (recorded_past turns) (recorded_past others) (reading_of theirs others) tag → Delivered (read_under tag theirs others)
         go (nothing_under none) = subst Delivered (sym none) none_delivered
         go (under_key key read both their_link held own) = subst Delivered (sym read) (key_delivered key both)
+
+  -- ---- without gaps
+
+  module _ (sent : List Sending) (same : SaysSame (λ sending. sending) (queued_of mine turns) sent) (asked : (stream count : ℕ) → reset_calls.asks stream count ≡ true → HasReset mine turns stream count)
+      (tag : ℕ) (only : HasOneTag (recorded_past turns)) (interleaves : Interleaves (recorded_past turns) tag) where
+    abbrev InEpochs : List MessageContent → Type 0
+    InEpochs read = IsDeliveredInEpochs (HasReset mine turns) (ReportsPeerReset theirs others tag) sent read
+
+    whole_cuts : (key : ℕ) → HadBoth (recorded_past turns) key tag → AreCutAsAsked true reset_calls.asks (h.ends.gets key).performed (queued_of mine turns) (with_key key (reading_of theirs others).reads)
+    whole_cuts key both =
+        subst (λ (calls : ResetCalls). AreCutAsAsked true calls.asks (h.ends.gets key).performed (queued_of mine turns) (with_key key (reading_of theirs others).reads)) h.is
+        (ends_cut_without_gaps theirs h.ends (endpoint_after mine turns) (queued_of mine turns) (recorded_past turns) (packets_of turns) (endpoint_after theirs others) (recorded_past others) (reading_of theirs others) h.between
+        few went key (λ link has. only link both.link has both.held ∙ both.tag_is) (both.link, both.held, both.tag_is, interleaves both.link both.held both.peer_is))
+
+    none_in_epochs : InEpochs []
+    none_in_epochs =
+        record {
+          delivered = record { places = []; were_sent = tt; once = tt; in_order = λ stream. tt };
+          epochs = λ streams index told stream names. (
+              let p = told_performed tag streams index told in
+              let c = (whole_cuts p.key p.both).cut stream (record { streams = streams; index = index }) p.performed names in
+              record { split = record { count = c.place; ask = asked stream c.place c.asked; split = tt }; no_gap = λ earlier later has. absurd has }
+              );
+          no_gap = λ stream earlier later has. absurd has;
+        }
+
+    key_in_epochs : (key : ℕ) → HadBoth (recorded_past turns) key tag → InEpochs (with_key key (reading_of theirs others).reads)
+    key_in_epochs key both =
+        let d = whole_cuts key both in
+        record {
+          delivered = is_in_order (queued_of mine turns) sent (with_key key (reading_of theirs others).reads) same d.ordered;
+          epochs = λ streams index told stream names. (
+              let p = told_performed tag streams index told in
+              let one : p.key ≡ key =
+              one_key theirs h.ends (endpoint_after mine turns) (queued_of mine turns) (recorded_past turns) (packets_of turns) (endpoint_after theirs others) (recorded_past others) (reading_of theirs others) h.between mine_differ theirs_differ
+              p.key key tag p.both both in
+              let c = d.cut stream (record { streams = streams; index = index }) (subst (λ (k : ℕ). HasEntry (record { streams = streams; index = index }) (h.ends.gets k).performed) one p.performed) names in
+              record {
+                split = record { count = c.place; ask = asked stream c.place c.asked; split = split_of (queued_of mine turns) sent same stream index c.place d.ordered.delivered.places c.separates };
+                no_gap = no_gap_of (queued_of mine turns) sent same stream c.place d.ordered.delivered.places (reset_calls.asks stream) (HasReset mine turns stream) (asked stream) (c.no_gap refl);
+              }
+              );
+          no_gap = λ stream. no_gap_of (queued_of mine turns) sent same stream (length sent) d.ordered.delivered.places (reset_calls.asks stream) (HasReset mine turns stream) (asked stream)
+              (subst (λ (n : ℕ). LeaveNoGapBefore (reset_calls.asks stream) (queued_of mine turns) stream n d.ordered.delivered.places) same.size (d.no_gap refl stream));
+        }
+
+    pub is_in_epochs : InEpochs (read_under tag theirs others)
+    is_in_epochs =
+        go
+        (read_under_key theirs h.ends (endpoint_after mine turns) (queued_of mine turns) (recorded_past turns) (packets_of turns) (endpoint_after theirs others) (recorded_past others) (reading_of theirs others) h.between mine_differ theirs_differ tag)
+      where
+        go : ReadUnder (recorded_past turns) (recorded_past others) (reading_of theirs others) tag → InEpochs (read_under tag theirs others)
+        go (nothing_under none) = subst InEpochs (sym none) none_in_epochs
+        go (under_key key read both their_link held own) = subst InEpochs (sym read) (key_in_epochs key both)

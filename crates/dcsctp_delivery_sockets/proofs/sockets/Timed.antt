@@ -1,19 +1,17 @@
 -- T3 runs wherever something is outstanding, and has no last restart.
-use Rattle.std.proofs.Common.{◌≡◌, ℕ, zero, suc, Bool, true, false, Option, None, Some, List, [], ◌∷◌, ◌++◌, length, refl, sym, ap, ◌∙◌, subst, inl, inr, slice_get}
-use Rattle.std.specs.Prelude.{if◌then◌else◌, nat_lt, not, ◌&&◌, ◌⊎◌, ◌-◌, ◌+◌}
+use Rattle.std.proofs.Common.{◌≡◌, ℕ, zero, suc, Bool, true, false, Option, None, Some, List, [], ◌∷◌, length, refl, sym, ap, ◌∙◌, subst, inl, inr, slice_get}
+use Rattle.std.specs.Prelude.{if◌then◌else◌, nat_lt, not, ◌&&◌, ◌-◌}
 use Rattle.std.specs.Option.{option_map, is_some}
 use Rattle.dcsctp_spec_lemmas.specs.wire.Content.{SackContent}
 use Rattle.dcsctp_spec_lemmas.specs.wire.declared.chunk.sack.GapAckBlock.{GapAckBlock}
 use Rattle.dcsctp_spec_lemmas.specs.types.declared.options.Options.{Options}
-use Rattle.dcsctp_spec_lemmas.specs.spec.queues.Abandoning.{GivesUpFirst, GivesUpAll}
-use Rattle.dcsctp_spec_lemmas.specs.types.declared.progress.Change.{Change}
+use Rattle.dcsctp_spec_lemmas.specs.spec.queues.Abandoning.{GivesUpFirst}
 use Rattle.dcsctp_spec_lemmas.specs.types.declared.progress.Change.TheVariants.{Miss, Mark}
 use Rattle.dcsctp_spec_lemmas.specs.spec.queues.Acknowledging.{covered_items, lossy, missed_until, exiting, rewound, AcknowledgesItems, acknowledged_until, opens, probes_lost, window_after_settling}
 use Rattle.dcsctp_spec_lemmas.specs.spec.queues.AtOnce.{empty_stage, timer_restarted, SendsAtOnce}
-use Rattle.dcsctp_spec_lemmas.specs.spec.queues.Filling.{Stage, DropsRestOfMessage, ClosesMessage, GivesUpItem, SendsMarked, SendsNew, FindsNone, StepAgain, StepNew, StageSteps, none, more, resent_packet_counted, FillsPacket}
-use Rattle.dcsctp_spec_lemmas.specs.spec.queues.ItemMessages.{EndsDropped}
+use Rattle.dcsctp_spec_lemmas.specs.spec.queues.Filling.{Stage, DropsRestOfMessage, ClosesMessage, GivesUpItem, SendsMarked, StepAgain, StepNew, StageSteps, none, more, resent_packet_counted, FillsPacket}
 use Rattle.dcsctp_spec_lemmas.specs.spec.queues.Items.{Item, marked_items, changed_between}
-use Rattle.dcsctp_spec_lemmas.specs.spec.queues.Outstanding.{OutstandingState, tsn_at, acknowledged_count}
+use Rattle.dcsctp_spec_lemmas.specs.spec.queues.Outstanding.{tsn_at, acknowledged_count}
 use Rattle.dcsctp_spec_lemmas.specs.spec.queues.Retransmission.{RetransmissionState, with_items, counted_again, timer_with, kept_running, after_expiry, is_window_closed, kept_for_peer, new_retransmission}
 use Rattle.dcsctp_spec_lemmas.specs.spec.queues.SendQueue.{SendQueueState}
 use Rattle.dcsctp_spec_lemmas.specs.spec.queues.Transfer.{Transfer}

@@ -204,6 +204,24 @@ module _ (queued : List Message) (sent : List Sending) (h : SaysSame (λ sending
   rise_on [] come = tt
   rise_on (place ∷ places) come = ((λ later has on on'. come.0 later has (ordered_on place on) (ordered_on later on')), rise_on places come.1)
 
+-- And one that was queued was sent there, with the same limits.
+pub record WasSentOn (sent : List Sending) (stream place : ℕ) (message : Message) : Type 0 where
+  pub on : IsOrderedMessage sent stream place
+  pub limits : message.is_limited ≡ has_limits on.sending.options
+
+pub sent_on : (queued : List Message) (sent : List Sending) (h : SaysSame (λ sending. sending) queued sent) (stream place : ℕ) (on : IsOrderedOn queued stream place) → WasSentOn sent stream place on.message
+sent_on queued sent h stream place on =
+    let one = h.at place on.message on.at in
+    record {
+      on = record {
+        sending = one.sending;
+        at = one.at;
+        on = ap (λ (m : Message). m.stream) one.is ∙ on.stream;
+        ordered = ap (λ (m : Message). m.is_unordered) one.is ∙ on.ordered;
+      };
+      limits = sym (ap (λ (m : Message). m.is_limited) one.is);
+    }
+
 pub were_sent_so : (queued : List Message) (sent : List Sending) → SaysSame (λ sending. sending) queued sent → (places : List ℕ) (read : List MessageContent) → WereQueued queued places read → WereSent (map message_sent sent) places read
 were_sent_so queued sent h [] [] were = tt
 were_sent_so queued sent h [] (content ∷ read) were = absurd were

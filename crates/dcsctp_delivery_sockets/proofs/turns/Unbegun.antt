@@ -201,7 +201,7 @@ module _ (e : Endpoint) (input : Input) (o : Outcome) (unlinked : identity_of_co
       actions_wait_on id (content_of_input input) (peer_tag e.core) _ _ made.actions w
 
   stays_waiting : (old last : Inside) → old ≡ inside e → Makes old last → last.queues.queue ≡ o.after.queues.queue → StaysWaiting e input o
-  stays_waiting old last is makes same id queued waits few spared all =
+  stays_waiting old last is makes same id queued waits few all =
       let w = waits_from old last (ap (λ (i : Inside). i.own) is) makes id queued (subst (λ (i : Inside). WaitsOnStream id queued i.queues) (sym is) (all_on_stream id queued e.queues none waits all)) in
       subst (λ (q : SendQueueState). AllWaitOn id (queued_after e input queued) q.streams) same (w.all few)
 

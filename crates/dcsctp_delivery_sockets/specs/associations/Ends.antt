@@ -141,12 +141,12 @@ pub record PlaceWasTaken (past : List Effect) (tag former latest : ℕ) : Type 0
   pub latest_is : link.peer.tag ≡ latest
   pub other : former ≢ latest
 
--- The sender had no association yet, and has numbered no message. All that was queued on a stream waits, unless that is reset.
+-- The sender had no association yet, and has numbered no message. All that was queued waits.
 pub record IsUnbegun (calls : ResetCalls) (queued : List Message) (e : Endpoint) : Type 0 where
   pub unlinked : identity_of_core e.core ≡ None
   pub idle : e.queues.transfer ≡ None
   pub zero : IsAtZero e.queues.queue
-  pub all : (id : ℕ) → calls.never id ≡ true → AllWaitOn id queued e.queues.queue.streams
+  pub all : (id : ℕ) → AllWaitOn id queued e.queues.queue.streams
 
 abbrev pub NeverHeld : List Effect → Type 0
 NeverHeld past = (link : AssociationIdentity) → HasEffect (holds link) past → ⊥
@@ -160,9 +160,10 @@ IsOnlyOwn past tag = (link : AssociationIdentity) → HasEffect (holds link) pas
 abbrev pub NumbersFromZero : Endpoint → List Effect → ℕ → Type 0
 NumbersFromZero e past tag = (e.options.follow_rfc ≡ true) ⊎ IsOnlyOwn past tag
 
--- A sender that begins so keeps these streams,
-abbrev pub KeepsThese : ResetCalls → Beginning → Type 0
-KeepsThese calls beginning = (id : ℕ) → calls.never id ≡ true → beginning.keeps id ≡ true
+-- A sender that begins so has all that was queued, and keeps these streams,
+pub record KeepsThese (calls : ResetCalls) (beginning : Beginning) : Type 0 where
+  pub whole : beginning.has_all ≡ true
+  pub keeps : (id : ℕ) → calls.never id ≡ true → beginning.keeps id ≡ true
 
 -- and no other, where the user asks for resets as it does.
 pub record KeepsOnlyThese (calls : ResetCalls) (beginning : Beginning) : Type 0 where
@@ -323,7 +324,7 @@ unbegun_end options =
       acknowledged = 0;
       sent = [];
       asking = nothing_asked;
-      beginning = record { from_zero = true; keeps = λ id. false; asks = λ id count. false };
+      beginning = record { from_zero = true; has_all = true; keeps = λ id. false; asks = λ id count. false };
     }
 
 -- What was received from a tag whose associations don't cross needs no sender.

@@ -20,7 +20,7 @@ use Rattle.dcsctp_delivery_directions.specs.sending.Queueing.{SettingFits}
 use Rattle.dcsctp_delivery_directions.specs.directions.Requests.{requests_to}
 use Rattle.dcsctp_delivery_sockets.specs.turns.Runs.{RefusesNone}
 use Rattle.dcsctp_delivery_sockets.specs.associations.InOrder.{Interleaves, AreThrough}
-use Rattle.dcsctp_delivery_sockets.specs.sockets.Epochs.{HasReset, ReportsPeerReset, IsDeliveredByEpoch}
+use Rattle.dcsctp_delivery_sockets.specs.sockets.Epochs.{HasReset, ReportsPeerReset, IsDeliveredByEpoch, IsDeliveredInEpochs}
 use Rattle.dcsctp_delivery_sockets.specs.sockets.Ordered.{HasOneTag, StartsAtZero, IsDeliveredOn, AllowsOrder, AllowsNoGaps, IsDeliveredInOrder, IsDeliveredWithoutGaps, IsReliable, IsDeliveredByStream, IsDeliveredAllOn, read_under}
 use Rattle.dcsctp_delivery_sockets.specs.sockets.UserMessages.{messages_of_turns, sendings_of_turns, read_of, IsDelivered}
 
@@ -161,7 +161,8 @@ pub record TurnsAllowDelivery (options : Both Options) (turns : Both (List Trans
 -- reliable stream, whatever happens on other streams; and it is all, without interleaving, once the other side has nothing left
 -- that waits or isn't acknowledged, and this side no message ready. Where messages interleave, other streams come in order besides. And each
 -- reset of streams that the other side's user was told is performed, this side's user was told of. With interleaving each reset that
--- this side's user was told of separates what the other side's user sent before it asked for that from what it sent since.
+-- this side's user was told of separates what the other side's user sent before it asked for that from what it sent since; where the
+-- other side had no other own tag, what is read of each stretch between two resets is a prefix of it, if it has no limits.
 pub record Delivers (options : Both Options) (turns : Both (List Transition)) (side : Side) : Type 0 where
   pub once : IsDelivered (messages_of_turns (fresh_endpoint (of_other side options)) (of_other side turns)) (read_of (fresh_endpoint (of_side side options)) (of_side side turns))
   pub in_order : (tag : ℕ) → AllowsOrder (of_other side options) (of_other side turns) tag
@@ -179,6 +180,9 @@ pub record Delivers (options : Both Options) (turns : Both (List Transition)) (s
   pub shared_resets : SharesResets (of_other side turns) (of_side side turns)
   pub by_epoch : (tag : ℕ) → StartsAtZero (of_other side options) (of_other side turns) → Interleaves (recorded_past (of_other side turns)) tag
       → IsDeliveredByEpoch (HasReset (of_other side options) (of_other side turns)) (ReportsPeerReset (of_side side options) (of_side side turns) tag)
+      (sendings_of_turns (fresh_endpoint (of_other side options)) (of_other side turns)) (read_under tag (of_side side options) (of_side side turns))
+  pub in_epochs : (tag : ℕ) → HasOneTag (recorded_past (of_other side turns)) → Interleaves (recorded_past (of_other side turns)) tag
+      → IsDeliveredInEpochs (HasReset (of_other side options) (of_other side turns)) (ReportsPeerReset (of_side side options) (of_side side turns) tag)
       (sendings_of_turns (fresh_endpoint (of_other side options)) (of_other side turns)) (read_under tag (of_side side options) (of_side side turns))
 
 -- So it is at the end of a run that is honest, in which no tag was drawn twice, each served one association or two of which the one

@@ -1,7 +1,7 @@
 -- What a user reads of a stream before and after each reset of it (RFC 6525, sections 5.1.2 and 5.2.2), by
 -- what two users see: the messages and the calls of `reset_streams` of the one, and what the other reads and
 -- is told of.
-use Rattle.std.specs.Prelude.{◌≡◌, ◌+◌, ◌<◌, ◌≤◌, ℕ, zero, suc, true, None, List, [], ◌∷◌, ◌++◌, length}
+use Rattle.std.specs.Prelude.{◌≡◌, ◌+◌, ◌<◌, ◌≤◌, ℕ, zero, suc, true, false, None, List, [], ◌∷◌, ◌++◌, length}
 use Rattle.dcsctp_spec_lemmas.specs.types.declared.options.Options.{Options}
 use Rattle.dcsctp_spec_lemmas.specs.spec.endpoint.CallTurns.{Transition}
 use Rattle.dcsctp_spec_lemmas.specs.spec.endpoint.DataOutcomes.{ready_or_left}
@@ -15,7 +15,8 @@ use Rattle.dcsctp_spec_runs.specs.Sockets.{endpoint_after}
 use Rattle.dcsctp_delivery_directions.specs.sending.Places.{HasEntry}
 use Rattle.dcsctp_delivery_sockets.specs.turns.Actions.{resets_stream}
 use Rattle.dcsctp_delivery_sockets.specs.associations.Reads.{nothing_read}
-use Rattle.dcsctp_delivery_sockets.specs.sockets.Ordered.{IsStreamMessage, IsDeliveredInOrder, read_under}
+use Rattle.dcsctp_delivery_directions.specs.sending.Queueing.{has_limits}
+use Rattle.dcsctp_delivery_sockets.specs.sockets.Ordered.{IsStreamMessage, IsOrderedMessage, IsDeliveredInOrder, read_under}
 use Rattle.dcsctp_delivery_sockets.specs.sockets.Packets.{reading_through}
 use Rattle.dcsctp_delivery_sockets.specs.sockets.UserMessages.{sendings_of_turns}
 
@@ -69,3 +70,32 @@ pub record AreSplitAsAsked (asked : ℕ → Type 0) (sent : List Sending) (strea
 pub record IsDeliveredByEpoch (asked : ℕ → ℕ → Type 0) (told : List ℕ → ℕ → Type 0) (sent : List Sending) (read : List MessageContent) : Type 0 where
   pub delivered : IsDeliveredInOrder sent read
   pub epochs : (streams : List ℕ) (index : ℕ) → told streams index → (stream : ℕ) → names_stream streams stream ≡ true → AreSplitAsAsked (asked stream) sent stream index delivered.places
+
+-- ---- without gaps
+
+-- The user asked for no reset of the stream once it had sent the earlier message, and before it sent the later one.
+abbrev pub AreSentInOneEpoch : (ℕ → Type 0) → ℕ → ℕ → Type 0
+AreSentInOneEpoch asked earlier later = (count : ℕ) → asked count → earlier < count → count ≤ later → ⊥
+
+-- No ordered message of the stream has a lifetime or a limit on retransmissions, from this place on and before the other.
+abbrev pub AreSentWithoutLimits : List Sending → ℕ → ℕ → ℕ → Type 0
+AreSentWithoutLimits sent stream from to = (place : ℕ) → from ≤ place → place < to → (on : IsOrderedMessage sent stream place) → has_limits on.sending.options ≡ false
+
+-- Of the ordered messages of the stream that were sent before this place, none is missing before one of its epoch that was read, if
+-- none from that one on has limits.
+abbrev pub HaveNoGapBefore : (ℕ → Type 0) → List Sending → ℕ → ℕ → List ℕ → Type 0
+HaveNoGapBefore asked sent stream end places =
+    (earlier later : ℕ) → HasEntry later places → IsOrderedMessage sent stream later → IsOrderedMessage sent stream earlier → earlier < later → later < end → AreSentInOneEpoch asked earlier later → AreSentWithoutLimits sent stream earlier end
+    → HasEntry earlier places
+
+-- The reset splits them where it was asked for, and before it no epoch has a gap.
+pub record IsSplitWithoutGaps (asked : ℕ → Type 0) (sent : List Sending) (stream index : ℕ) (places : List ℕ) : Type 0 where
+  pub split : AreSplitAsAsked asked sent stream index places
+  pub no_gap : HaveNoGapBefore asked sent stream split.count places
+
+-- Each reset that is reported splits them so. And since the last one none is missing either: what is read of an epoch without limits
+-- is a prefix of what was sent in it.
+pub record IsDeliveredInEpochs (asked : ℕ → ℕ → Type 0) (told : List ℕ → ℕ → Type 0) (sent : List Sending) (read : List MessageContent) : Type 0 where
+  pub delivered : IsDeliveredInOrder sent read
+  pub epochs : (streams : List ℕ) (index : ℕ) → told streams index → (stream : ℕ) → names_stream streams stream ≡ true → IsSplitWithoutGaps (asked stream) sent stream index delivered.places
+  pub no_gap : (stream : ℕ) → HaveNoGapBefore (asked stream) sent stream (length sent) delivered.places

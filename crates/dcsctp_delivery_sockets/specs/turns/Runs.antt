@@ -136,13 +136,13 @@ SendersGoOn =
 abbrev pub SendersBegin : Type 0
 SendersBegin =
     (mine options : Options) (first size : ℕ) (keeps : ℕ → Bool) (asks : ℕ → ℕ → Bool)
-    → DirectionRun options first size (new_direction options first size [] (record { queue = empty_queue mine; transfer = None }) 0 [] (record { from_zero = true; keeps = keeps; asks = asks }))
+    → DirectionRun options first size (new_direction options first size [] (record { queue = empty_queue mine; transfer = None }) 0 [] (record { from_zero = true; has_all = true; keeps = keeps; asks = asks }))
 
 -- and where its association has ended.
 abbrev pub SendersBeginAgain : Type 0
 SendersBeginAgain =
     (options : Options) (first size : ℕ) (asks : ℕ → ℕ → Bool) (queued : List Message) (sender_queues : EndpointQueues) → AllByRecursion Fits queued → QueueWaits queued sender_queues.queue → sender_queues.transfer ≡ None
-    → DirectionRun options first size (new_direction options first size queued sender_queues 0 [] (record { from_zero = false; keeps = λ id. false; asks = asks }))
+    → DirectionRun options first size (new_direction options first size queued sender_queues 0 [] (record { from_zero = false; has_all = false; keeps = λ id. false; asks = asks }))
 
 -- An association begins, and what its receiver does in the same turn are steps of a run. It waits for no reset.
 pub record OpensAssociation (e : Endpoint) (input : Input) (o : Outcome) : Type 0 where

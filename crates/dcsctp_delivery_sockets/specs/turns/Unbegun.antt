@@ -15,7 +15,7 @@ use Rattle.dcsctp_delivery_directions.specs.sending.Log.{Message}
 use Rattle.dcsctp_delivery_directions.specs.sending.Losing.{AllWaitOn}
 use Rattle.dcsctp_delivery_directions.specs.sending.Queueing.{QueueWaits}
 use Rattle.dcsctp_delivery_directions.specs.directions.Directions.{BeginsAtZero}
-use Rattle.dcsctp_delivery_sockets.specs.turns.Actions.{content_of_input, queued_after, BeginsAssociation, IsOpening, resets_stream, IsCall}
+use Rattle.dcsctp_delivery_sockets.specs.turns.Actions.{content_of_input, queued_after, BeginsAssociation, IsOpening, IsCall}
 
 -- No message is under way, the next one of each stream, ordered or not, has SSN 0 and MID 0, and none is to be reset.
 pub record IsAtZero (queue : SendQueueState) : Type 0 where
@@ -24,11 +24,11 @@ pub record IsAtZero (queue : SendQueueState) : Type 0 where
   pub unordered : (id : ℕ) → next_numbers true (stream_named id queue.streams) ≡ (0, 0)
   pub unpaused : (id : ℕ) → is_open_pause (stream_named id queue.streams).pause ≡ true
 
--- All that was queued on a stream waits after the turn, and the stream isn't to be reset, if it was so before, unless the user
--- resets it by the turn.
+-- All that was queued on a stream waits after the turn, and the stream isn't to be reset, if it was so before: without an association
+-- a call that resets streams is refused.
 abbrev pub StaysWaiting : Endpoint → Input → Outcome → Type 0
 StaysWaiting e input o =
-    (id : ℕ) (queued : List Message) → QueueWaits queued e.queues.queue → length (queued_after e input queued) < 2 ^ 64 → resets_stream id input ≡ false
+    (id : ℕ) (queued : List Message) → QueueWaits queued e.queues.queue → length (queued_after e input queued) < 2 ^ 64
     → AllWaitOn id queued e.queues.queue.streams → AllWaitOn id (queued_after e input queued) o.after.queues.queue.streams
 
 -- There is still no association, and the queue is still at 0; or an association begins in this turn.

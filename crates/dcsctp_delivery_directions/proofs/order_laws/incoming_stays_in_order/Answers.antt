@@ -7,10 +7,10 @@ pub returns-clause-data : goal.returns-clause-data
 returns-clause-data c = ready_in_order
 
 pub returns-clause-skips : goal.returns-clause-skips
-returns-clause-skips c = λ gapless queued history quiet got base tsn read entries old new free. skipping_in_order gapless queued history free quiet got base read tsn entries old new
+returns-clause-skips c = λ watch queued history quiet got base tsn read entries old new. skipping_in_order watch queued history quiet got base read tsn entries old new
 
 pub returns-clause-resets : goal.returns-clause-resets
-returns-clause-resets c = resetting_in_order
+returns-clause-resets c = λ watch queued history quiet got base read streams old new. resetting_in_order watch queued history quiet got base read streams old new
 
 pub returns-clause-grows : goal.returns-clause-grows
 returns-clause-grows c = growing_in_order
