@@ -18,7 +18,6 @@ pub mod Delivery
 pub mod Replaced
 pub mod Opening
 pub mod InFlight
-pub mod Timed
 pub mod Allowed
 pub mod Actions
 pub mod Turns

@@ -5,6 +5,5 @@ pub mod UserMessages
 pub mod Ordered
 pub mod Epochs
 pub mod Delivery
-pub mod Retransmitting
 pub mod Shown
 pub mod ShownDelivery

@@ -1,7 +1,6 @@
 //! The laws of this crate.
 
 ghost use Rattle.dcsctp_delivery_sockets.specs.sockets.ShownDelivery.{UsersReadWhatWasSent};
-ghost use Rattle.dcsctp_delivery_sockets.specs.sockets.Retransmitting.{SocketsRunT3};
 ghost use Rattle.dcsctp_delivery_sockets.specs.sockets.Shown.{ShownTagsSuffice};
 
 use crate::sockets_deliver;
@@ -19,22 +18,6 @@ use dcsctp_wire_laws::built_packet_reads_as_itself;
 /// association begins and ends in one act.
 pub fn shown_tags_suffice()
     ensures { ShownTagsSuffice }
-{
-    effects_mean();
-    acts_are_controlled();
-    chunks_are_controlled();
-    packets_are_controlled();
-    admitted_packets_may_be_worked();
-    offer_reads_back();
-    built_packet_reads_as_itself();
-    answer_keeps_agreement();
-}
-
-/// Where data that a socket has sent isn't acknowledged, its retransmission timer runs (RFC 9260, section 6.3.2), whatever
-/// is lost. So the socket asks to be called again until the data is acknowledged or given up. It is so as long as no act
-/// comes from outside and no tag is drawn twice.
-pub fn sockets_run_t3()
-    ensures { SocketsRunT3 }
 {
     effects_mean();
     acts_are_controlled();

@@ -11,9 +11,14 @@ use Rattle.dcsctp_core.specs.spec.Packet.{Emission, emission_bytes}
 use Rattle.dcsctp_core.specs.types.Settings.{ports_of}
 use Rattle.dcsctp_core.specs.spec.endpoint.Endpoint.{Endpoint}
 use Rattle.dcsctp_core.specs.spec.endpoint.CallTurns.{Transition, events_of}
-use Rattle.dcsctp_spec_runs.specs.Sockets.{PerformedAct, Both, of_side, turns_after, acts_of}
+use Rattle.dcsctp_spec_runs.specs.Sockets.{PerformedAct, Both, of_side, turns_after, endpoint_after, acts_of}
 use Rattle.dcsctp_theorem_sockets.specs.Deadlines.{RunsT1}
-use Rattle.dcsctp_delivery_sockets.specs.sockets.Retransmitting.{RunsT3, SocketsRunT3}
+use Rattle.dcsctp_theorem_transfer.specs.Deadlines.{AsksInTime}
+use Rattle.dcsctp_theorem_transfer.specs.Delaying.{AcknowledgesInTime}
+use Rattle.dcsctp_theorem_transfer.specs.Laws.{TransferLaws}
+use Rattle.dcsctp_theorem_transfer.specs.Owing.{OwesInTime}
+use Rattle.dcsctp_theorem_transfer.specs.Retransmitting.{RunsT3}
+use Rattle.dcsctp_theorem_transfer.specs.Windows.{HoldsPacket}
 use Rattle.dcsctp_theorem_sockets.specs.Handshake.{ConnectThroughout, handshake_acts, connections_of_events, IsConnected, AreConnected, FittingSocketsConnect}
 use Rattle.dcsctp_theorem_sockets.specs.Laws.{SocketLaws}
 use Rattle.dcsctp_theorem_sockets.specs.OneSocket.{IsWithinLimit}
@@ -80,9 +85,13 @@ handshake_connects law options world run side acts_are fit =
 
 -- ---- what holds of each socket, and of both
 
-keeps_promises : {R : Type 0} → SocketLaws → (options : Both Options) (world : WorldView R) (run : IsRun options world) (side : Side)
+keeps_promises : {R : Type 0} → SocketLaws → TransferLaws → (options : Both Options) (world : WorldView R) (run : IsRun options world) (side : Side)
     → KeepsPromises (of_side side options) (of_side side (turns_after run.steps)) (of_side side world.sides)
-keeps_promises law options world run side =
+keeps_promises law transfers options world run side =
+    let turns : List Transition = of_side side (turns_after run.steps) in
+    let t1 : RunsT1 (endpoint_after (of_side side options) turns) = law.t1 options run.steps run.usable run.run side in
+    let t3 : RunsT3 (endpoint_after (of_side side options) turns).queues.transfer = transfers.t3 options run.steps run.run side in
+    let acknowledges : AcknowledgesInTime (of_side side options) turns = transfers.acknowledgements options run.steps run.run side in
     record {
       numbers = law.numbers options run.steps run.usable run.run side;
       told = law.told options run.steps run.usable run.run side;
@@ -90,13 +99,17 @@ keeps_promises law options world run side =
       anew = law.anew options run.steps run.usable run.run side;
       answers = law.answers options run.steps run.run side;
       ends = law.ends options run.steps run.run side;
-      t1 = subst RunsT1 (sym (run.sides side).endpoint) (law.t1 options run.steps run.usable run.run side);
+      t1 = subst RunsT1 (sym (run.sides side).endpoint) t1;
+      t3 = subst (λ (e : Endpoint). RunsT3 e.queues.transfer) (sym (run.sides side).endpoint) t3;
+      acknowledges = acknowledges;
+      owes = subst (OwesInTime (of_side side options)) (sym (run.sides side).endpoint) (transfers.owing options run.steps run.run side);
+      asks = subst AsksInTime (sym (run.sides side).endpoint) (transfers.timers (endpoint_after (of_side side options) turns) t1.runs t3 acknowledges.delays);
       sizes = subst (AllByRecursion (IsWithinLimit (of_side side options))) (sym (run.sides side).packets) (law.sizes options run.steps run.run side (run.usable side).valid);
       bursts = law.bursts options run.steps run.run side;
     }
 
-pub world_keeps : {R : Type 0} → SocketLaws → CookieLaws → UsersReadWhatWasSent → SocketsRunT3 → ProgressLaws → (world : WorldView (Recording R)) → GoesWell world → Promises world
-world_keeps law cookies delivery timers progress world well =
+pub world_keeps : {R : Type 0} → SocketLaws → CookieLaws → UsersReadWhatWasSent → TransferLaws → ProgressLaws → (world : WorldView (Recording R)) → GoesWell world → Promises world
+world_keeps law cookies delivery transfers progress world well =
     let options : Both Options = options_of world in
     let run : IsRun options world = well.is_run in
     record {
@@ -110,8 +123,9 @@ world_keeps law cookies delivery timers progress world well =
       connect = λ fit side. law.connect options side run.steps run.usable fit run.run;
       handshake = handshake_connects law.connect options world run;
       connects = λ those shown fit. progress.throughout those shown.steps shown.usable fit shown.run;
-      t3 = λ honest fresh side.
-          subst (λ (e : Endpoint). RunsT3 e.queues.transfer) (sym (run.sides side).endpoint) (timers options run.steps run.usable run.run honest fresh side);
+      windows = λ honest side allow.
+          subst (λ (e : Endpoint). HoldsPacket (of_side side options) e.queues.transfer) (sym (run.sides side).endpoint)
+          (transfers.windows options run.steps run.run honest side (run.usable side).valid allow);
       quiet = law.quiet options run.steps run.run;
-      each = keeps_promises law options world run;
+      each = keeps_promises law transfers options world run;
     }

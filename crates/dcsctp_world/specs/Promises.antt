@@ -8,9 +8,13 @@ use Rattle.dcsctp_core.specs.spec.endpoint.Endpoint.{fresh_endpoint}
 use Rattle.dcsctp_core.specs.spec.endpoint.CallTurns.{Transition, AlongTurns}
 use Rattle.dcsctp_spec_runs.specs.Past.{Each, InPlace}
 use Rattle.dcsctp_spec_runs.specs.Sockets.{of_side, turns_after, acts_of}
-use Rattle.dcsctp_theorem_sockets.specs.Agreement.{AgreeThroughout, AreFresh, recorded_past}
+use Rattle.dcsctp_theorem_sockets.specs.Agreement.{AgreeThroughout, recorded_past}
 use Rattle.dcsctp_theorem_sockets.specs.Deadlines.{RunsT1}
-use Rattle.dcsctp_delivery_sockets.specs.sockets.Retransmitting.{RunsT3}
+use Rattle.dcsctp_theorem_transfer.specs.Deadlines.{AsksInTime}
+use Rattle.dcsctp_theorem_transfer.specs.Delaying.{AcknowledgesInTime}
+use Rattle.dcsctp_theorem_transfer.specs.Owing.{OwesInTime}
+use Rattle.dcsctp_theorem_transfer.specs.Retransmitting.{RunsT3}
+use Rattle.dcsctp_theorem_transfer.specs.Windows.{AllowPacket, HoldsPacket}
 use Rattle.dcsctp_theorem_sockets.specs.Handshake.{AreFitting, ConnectThroughout}
 use Rattle.dcsctp_theorem_sockets.specs.OneSocket.{EndsByAnswer, ReportsEnd, IsWithinLimit, TurnKeepsBurst, TimeIsQuiet}
 use Rattle.dcsctp_theorem_sockets.specs.Telling.{ReportsRecorded, HasRecordedAssociation, AreNewRecords}
@@ -40,6 +44,14 @@ pub record KeepsPromises {R : Type 0} (options : Options) (turns : List Transiti
   pub ends : AlongTurns ReportsEnd (fresh_endpoint options) turns
   -- A socket that awaits an INIT ACK or a COOKIE ACK has T1 running.
   pub t1 : RunsT1 side.socket.view.endpoint
+  -- A socket whose data isn't acknowledged has T3 running.
+  pub t3 : RunsT3 side.socket.view.endpoint.queues.transfer
+  -- What it received is acknowledged at the end of its packet, or a timer runs that brings that.
+  pub acknowledges : AcknowledgesInTime options turns
+  -- With `follow_rfc` an open association owes no acknowledgement but by this timer.
+  pub owes : OwesInTime options side.socket.view.endpoint
+  -- It asks to be called when the first of these timers expires at the latest.
+  pub asks : AsksInTime side.socket.view.endpoint
   -- No packet is longer than the options allow.
   pub sizes : AllByRecursion (IsWithinLimit options) side.packets
   -- No turn sends more packets than its input allows, and what a flush may send.
@@ -77,8 +89,9 @@ pub record Promises {R : Type 0} (world : WorldView (Recording R)) : Type 0 wher
   -- cookie or has it, neither sent a message, and T1 may restart: however many rounds are lost, one that isn't connects sockets that
   -- fit each other. One that is lost in part does too, or costs a restart. In an honest run the cookie is the other's.
   pub connects : ShownRoundsConnect world
-  -- In a run without acts from outside, in which no side drew a tag twice, T3 runs at a socket whose data isn't acknowledged.
-  pub t3 : AreHonest (acts_of run.steps) → AreFresh (turns_after run.steps) → (side : Side) → RunsT3 (of_side side world.sides).socket.view.endpoint.queues.transfer
+  -- In a run without acts from outside the congestion window has room for a packet, if the options begin it so.
+  pub windows : AreHonest (acts_of run.steps) → (side : Side) → AllowPacket (of_side side (options_of world))
+      → HoldsPacket (of_side side (options_of world)) (of_side side world.sides).socket.view.endpoint.queues.transfer
   -- Time before the next deadline moves the clock alone, but for a socket that awaits a COOKIE ACK.
   pub quiet : TimeIsQuiet (options_of world) run.steps
   -- What each socket keeps by itself.

@@ -5,11 +5,12 @@ use crate::fits::act_fits;
 use crate::recorded::Recorded;
 use crate::watched_socket::WatchedSocket;
 use dcsctp_core::types::{Act, Outside, Side, Step};
-use dcsctp_delivery_sockets::{sockets_run_t3, users_read_what_was_sent};
+use dcsctp_delivery_sockets::users_read_what_was_sent;
 use dcsctp_socket::{Association, Message, Options, Pair, Socket, SocketEvent, SocketFault, Word};
 use dcsctp_spec_runs::{options_fit, sockets_stay_sound};
 use dcsctp_theorem_progress::progress_laws;
 use dcsctp_theorem_sockets::{cookie_laws, restored_sockets_begin_nothing, socket_laws};
+use dcsctp_theorem_transfer::transfer_laws;
 use rand_core::Rng;
 use std::alloc::Global;
 use std::marker::Model;
@@ -146,7 +147,7 @@ impl<R: Rng + Drop> World<R> {
         socket_laws();
         cookie_laws();
         users_read_what_was_sent();
-        sockets_run_t3();
+        transfer_laws();
         progress_laws();
         let a = WatchedSocket::new(alloc, "a", a, Recorded::new(alloc, rng_a))?;
         let b = WatchedSocket::new(alloc, "b", b, Recorded::new(alloc, rng_b))?;
@@ -169,7 +170,7 @@ impl<R: Rng + Drop> World<R> {
         socket_laws();
         cookie_laws();
         users_read_what_was_sent();
-        sockets_run_t3();
+        transfer_laws();
         progress_laws();
         sockets_stay_sound();
         restored_sockets_begin_nothing();
@@ -291,7 +292,7 @@ impl<R: Rng + Drop> World<R> {
         socket_laws();
         cookie_laws();
         users_read_what_was_sent();
-        sockets_run_t3();
+        transfer_laws();
         progress_laws();
         for step in steps {
             self.apply(step)?;

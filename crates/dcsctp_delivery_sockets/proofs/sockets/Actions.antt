@@ -1,5 +1,5 @@
--- Each action of a socket keeps the kinds of what is in flight, for which T3 runs, and sends only chunks
--- that were negotiated.
+-- Each action of a socket keeps the kinds of what is in flight, and sends only chunks that were
+-- negotiated.
 use Rattle.std.proofs.Common.{◌≡◌, ℕ, Bool, true, false, Option, None, Some, List, [], ◌∷◌, ◌++◌, map, refl, sym, ap, ◌∙◌, subst, append-nil}
 use Rattle.std.specs.List.{AllByRecursion}
 use Rattle.dcsctp_spec_lemmas.specs.types.declared.capabilities.Capabilities.{Capabilities}
@@ -7,7 +7,6 @@ use Rattle.dcsctp_spec_lemmas.specs.spec.endpoint.Endpoint.{Endpoint, Core, clos
 use Rattle.dcsctp_spec_lemmas.specs.spec.endpoint.Event.{Event, sent, packets_of_events}
 use Rattle.dcsctp_spec_lemmas.specs.spec.Packet.{Content, Emission}
 use Rattle.dcsctp_spec_lemmas.specs.spec.association.Choices.{plain_contents}
-use Rattle.dcsctp_spec_lemmas.specs.spec.queues.AtOnce.{SendsAtOnce}
 use Rattle.dcsctp_spec_lemmas.specs.spec.queues.Retransmission.{RetransmissionState}
 use Rattle.dcsctp_spec_lemmas.specs.spec.queues.SendQueue.{SendQueueState}
 use Rattle.dcsctp_spec_lemmas.specs.spec.queues.Transfer.{Transfer, EndpointQueues, may_give, is_idle}
@@ -22,17 +21,12 @@ use Rattle.dcsctp_delivery_sockets.specs.turns.Actions as actions
 use Rattle.dcsctp_delivery_sockets.proofs.turns.Received.{data_where}
 use Rattle.dcsctp_delivery_directions.proofs.sending.Packets.{out_below}
 use Rattle.dcsctp_delivery_sockets.proofs.sockets.InFlight.{IsOf, fills_where_is, begun_is, at_once_is, sack_is, timed_is}
-use Rattle.dcsctp_delivery_sockets.proofs.sockets.Timed.{IsTimed, given_up_timed, fills_where_timed, begun_timed, at_once_timed, sack_timed, measured_timed, lost_timed}
 use Rattle.dcsctp_delivery_sockets.proofs.sockets.Allowed.{MayGo, AllAllowed, AreAllowed, all_append, no_data_goes, plain_go, request_goes, sacks_go, data_goes, forwards_go, ContentsAllowed, spoken_goes, behind_goes}
-
--- What is in flight is of these kinds, and T3 runs for it.
-abbrev pub IsKept : Capabilities → RetransmissionState → Type 0
-IsKept kinds state = IsOf kinds state × IsTimed state
 
 -- This holds for what is in flight, if there is an association.
 abbrev pub TransferIs : Capabilities → Option Transfer → Type 0
 TransferIs kinds None = Unit {0}
-TransferIs kinds (Some transfer) = IsKept kinds transfer.retransmission
+TransferIs kinds (Some transfer) = IsOf kinds transfer.retransmission
 
 module _ (kinds : Capabilities) where
   -- ---- one packet of a flush
@@ -42,25 +36,19 @@ module _ (kinds : Capabilities) where
     left : TransferIs kinds answer.after.queues.transfer
     says : AllAllowed kinds (answer_contents answer)
 
-  gives_is : (ask : Ask) (e : Endpoint) (draft : Emission) (transfer : Transfer) (answer : Answer) → IsKept kinds transfer.retransmission → Gives ask e draft transfer answer → AnswerIs answer
+  gives_is : (ask : Ask) (e : Endpoint) (draft : Emission) (transfer : Transfer) (answer : Answer) → IsOf kinds transfer.retransmission → Gives ask e draft transfer answer → AnswerIs answer
   gives_is ask e draft transfer answer is gives =
       let gave = forwards_go kinds (may_forward ask e transfer.retransmission) ask e transfer (room_of_draft e (filled_draft draft (plain_contents gives.sacks))) (stage_of e.queues.queue transfer.retransmission [] 0) gives.gave_up
-      gives.next gives.forwards refl is.0 refl gives.gives_up in
-      let gave_timed = given_up_timed (may_forward ask e transfer.retransmission) e.moment transfer (room_of_draft e (filled_draft draft (plain_contents gives.sacks))) (stage_of e.queues.queue transfer.retransmission [] 0) gives.gave_up
-      gives.next gives.forwards is.1 gives.gives_up in
+      gives.next gives.forwards refl is refl gives.gives_up in
       let left : SendQueueState = queue_requesting (streams_within (room_of_draft e (filled_draft draft (plain_contents answer.acknowledgements)))) answer.begun gives.gave_up.waiting in
       let begun : RetransmissionState = retransmission_begun answer.begun gives.gave_up.queue in
       let full : IsOf kinds gives.sent.queue =
       fills_where_is kinds (may_give left begun) e.moment
       (stage_of left begun gives.gave_up.told (room_of_draft e (filled_draft draft (plain_contents answer.acknowledgements ++ request_contents answer.begun)))) gives.sent
       (begun_is kinds answer.begun gives.gave_up.queue gave.0) gives.fills in
-      let timed : IsTimed gives.sent.queue =
-      fills_where_timed (may_give left begun) e.moment
-      (stage_of left begun gives.gave_up.told (room_of_draft e (filled_draft draft (plain_contents answer.acknowledgements ++ request_contents answer.begun)))) gives.sent
-      (begun_timed answer.begun gives.gave_up.queue gave_timed) gives.fills in
       let sacks : AllByRecursion (MayGo kinds) gives.sacks = sacks_go kinds (wants_sack ask e.queues.queue transfer) (room_of_draft e draft) transfer gives.tracker gives.sacks gives.acknowledges in
       record {
-        left = subst (λ (b : EndpointQueues). TransferIs kinds b.transfer) (sym gives.below) (full, timed);
+        left = subst (λ (b : EndpointQueues). TransferIs kinds b.transfer) (sym gives.below) full;
         says = all_append _ (plain_contents answer.acknowledgements) (request_contents answer.begun ++ plain_contents answer.data_chunks)
             (plain_go kinds answer.acknowledgements (subst (AllByRecursion (MayGo kinds)) (sym gives.parts) (all_append (MayGo kinds) gives.sacks gives.forwards sacks gave.1)))
             (all_append _ (request_contents answer.begun) (plain_contents answer.data_chunks) (request_goes kinds answer.begun)
@@ -128,17 +116,12 @@ module _ (kinds : Capabilities) where
 
   -- ---- data that is received
 
-  receives_is : (b : Bool) (arrival : Arrival) (old new : Transfer) → IsKept kinds old.retransmission → ReceivesIfRoom b arrival old new → IsKept kinds new.retransmission
-  receives_is b arrival old new is does = subst (IsKept kinds) (sym (data_where b arrival old new does)) is
+  receives_is : (b : Bool) (arrival : Arrival) (old new : Transfer) → IsOf kinds old.retransmission → ReceivesIfRoom b arrival old new → IsOf kinds new.retransmission
+  receives_is b arrival old new is does = subst (IsOf kinds) (sym (data_where b arrival old new does)) is
 
-  moves_is : (b : Bool) (tsn : ℕ) (entries : List SkippedTo) (old new : Transfer) → IsKept kinds old.retransmission → MovesIfForward b tsn entries old new → IsKept kinds new.retransmission
-  moves_is true tsn entries old new is does = subst (λ (t : Transfer). IsKept kinds t.retransmission) (sym does.rest) is
-  moves_is false tsn entries old new is does = subst (λ (t : Transfer). IsKept kinds t.retransmission) (sym does) is
-
-  -- ---- what is sent at once
-
-  resent_is : (now bytes : ℕ) (waiting : SendQueueState) (old new : RetransmissionState) (tsns : List ℕ) → IsKept kinds old → SendsAtOnce now bytes waiting old new tsns → IsKept kinds new
-  resent_is now bytes waiting old new tsns h does = (at_once_is kinds now bytes waiting old new tsns h.0 does, at_once_timed now bytes waiting old new tsns h.1 does)
+  moves_is : (b : Bool) (tsn : ℕ) (entries : List SkippedTo) (old new : Transfer) → IsOf kinds old.retransmission → MovesIfForward b tsn entries old new → IsOf kinds new.retransmission
+  moves_is true tsn entries old new is does = subst (λ (t : Transfer). IsOf kinds t.retransmission) (sym does.rest) is
+  moves_is false tsn entries old new is does = subst (λ (t : Transfer). IsOf kinds t.retransmission) (sym does) is
 
   -- ---- each action
 
@@ -146,7 +129,7 @@ module _ (kinds : Capabilities) where
     pub left : TransferIs kinds ledger.queues.transfer
     pub says : AreAllowed kinds ledger.sent
 
-  pub of_known : (transfer : Transfer) (below : Option Transfer) → below ≡ Some transfer → TransferIs kinds below → IsKept kinds transfer.retransmission
+  pub of_known : (transfer : Transfer) (below : Option Transfer) → below ≡ Some transfer → TransferIs kinds below → IsOf kinds transfer.retransmission
   of_known transfer below known is = subst (TransferIs kinds) known is
 
   action_is : (came : Option Content) (to : ℕ) (old new : Ledger) → LedgerIs old → Action came to old new → LedgerIs new
@@ -156,30 +139,26 @@ module _ (kinds : Capabilities) where
       let keeps = flush_keeps e draft answers (subst (λ (b : EndpointQueues). TransferIs kinds b.transfer) (sym below) h.left) (no_data_goes kinds draft.packet.contents no_data stale) allowed in
       record { left = keeps.left; says = all_append _ old.sent (packets_of_events (flush_of e draft answers).events) h.says keeps.says }
   action_is came to old _ h (actions.resends now room transfer left tsns chunks emission tag known sends are contents) =
-      let is : IsKept kinds left = resent_is now room old.queues.queue transfer.retransmission left tsns (of_known transfer old.queues.transfer known h.left) sends in
+      let is : IsOf kinds left = at_once_is kinds now room old.queues.queue transfer.retransmission left tsns (of_known transfer old.queues.transfer known h.left) sends in
       record {
         left = is;
-        says = all_append _ old.sent (emission ∷ []) h.says (subst (ContentsAllowed kinds) (sym contents) (behind_goes kinds (plain_contents chunks) (plain_go kinds chunks (data_goes kinds left.outstanding tsns chunks is.0.0 are))), tt);
+        says = all_append _ old.sent (emission ∷ []) h.says (subst (ContentsAllowed kinds) (sym contents) (behind_goes kinds (plain_contents chunks) (plain_go kinds chunks (data_goes kinds left.outstanding tsns chunks is.0 are))), tt);
       }
   action_is came to old _ h (actions.resends_nothing now room transfer left tsns known sends) =
-      record { left = resent_is now room old.queues.queue transfer.retransmission left tsns (of_known transfer old.queues.transfer known h.left) sends; says = h.says }
+      record { left = at_once_is kinds now room old.queues.queue transfer.retransmission left tsns (of_known transfer old.queues.transfer known h.left) sends; says = h.says }
   action_is came to old _ h (actions.speaks emission no_data stale reports) = record { left = h.left; says = all_append _ old.sent (emission ∷ []) h.says (spoken_goes kinds emission.packet.contents no_data stale, tt) }
   action_is came to old _ h (actions.asks_again emission begun tag has contents) =
       record { left = h.left; says = all_append _ old.sent (emission ∷ []) h.says (subst (ContentsAllowed kinds) (sym contents) tt, tt) }
   action_is came to old _ h (actions.acknowledges now sack transfer new may known valid takes) =
-      let was = of_known transfer old.queues.transfer known h.left in
-      record { left = (sack_is kinds now sack transfer new was.0 takes, sack_timed now sack transfer new was.1 takes); says = h.says }
-  action_is came to old _ h (actions.loses now transfer known) =
-      let was = of_known transfer old.queues.transfer known h.left in
-      record { left = (was.0, lost_timed now transfer.retransmission was.1); says = h.says }
+      record { left = sack_is kinds now sack transfer new (of_known transfer old.queues.transfer known h.left) takes; says = h.says }
+  action_is came to old _ h (actions.loses now transfer known) = record { left = of_known transfer old.queues.transfer known h.left; says = h.says }
   action_is came to old _ h (actions.receives chunk transfer new is some known does) = record { left = receives_is _ _ transfer new (of_known transfer old.queues.transfer known h.left) does; says = h.says }
   action_is came to old _ h (actions.receives_interleaved chunk transfer new is some known does) = record { left = receives_is _ _ transfer new (of_known transfer old.queues.transfer known h.left) does; says = h.says }
   action_is came to old _ h (actions.forwards tsn streams transfer new is known does) = record { left = moves_is _ _ _ transfer new (of_known transfer old.queues.transfer known h.left) does; says = h.says }
   action_is came to old _ h (actions.forwards_interleaved tsn streams transfer new is known does) = record { left = moves_is _ _ _ transfer new (of_known transfer old.queues.transfer known h.left) does; says = h.says }
   action_is came to old _ h (actions.tracks transfer tracker known same_tsn same_ranges) = record { left = of_known transfer old.queues.transfer known h.left; says = h.says }
   action_is came to old _ h (actions.times round_trip transfer known) =
-      let was = of_known transfer old.queues.transfer known h.left in
-      record { left = (timed_is kinds round_trip transfer was.0, measured_timed round_trip transfer was.1); says = h.says }
+      record { left = timed_is kinds round_trip transfer (of_known transfer old.queues.transfer known h.left); says = h.says }
   action_is came to old _ h (actions.takes transfer message messages known ready) = record { left = of_known transfer old.queues.transfer known h.left; says = h.says }
 
   pub actions_are : (came : Option Content) (to : ℕ) (old new : Ledger) → LedgerIs old → Actions came to old new → LedgerIs new

@@ -1,6 +1,6 @@
 -- Over an honest run each association that a side records is shown, so the tags of what is shown are
 -- those of all.
-use Rattle.std.proofs.Common.{◌≡◌, Bool, true, false, List, [], ◌∷◌, ◌++◌, refl, subst, inl, inr, None, Some, Option}
+use Rattle.std.proofs.Common.{◌≡◌, Bool, true, false, List, [], ◌∷◌, ◌++◌, refl, subst, inl, inr}
 use Rattle.std.specs.Prelude.{Option, ◌&&◌}
 use Rattle.dcsctp_spec_lemmas.specs.types.declared.capabilities.Capabilities.{Capabilities}
 use Rattle.dcsctp_spec_lemmas.specs.types.declared.options.Options.{Options}
@@ -33,9 +33,6 @@ use Rattle.dcsctp_delivery_sockets.proofs.sockets.KnownPeers.{IsMove, run_starts
 use Rattle.dcsctp_delivery_sockets.proofs.sockets.Known.{along_front, along_rest, sent_front, IsOwn, own_turn}
 use Rattle.dcsctp_delivery_sockets.specs.sockets.Shown.{identity_shown, identities_shown, OneTakesThePlace, ShownTagsSuffice}
 use Rattle.dcsctp_delivery_sockets.specs.sockets.Delivery.{MatchOrUnmatched, SendsLittleTogether}
-use Rattle.dcsctp_spec_lemmas.specs.spec.queues.Transfer.{Transfer}
-use Rattle.dcsctp_delivery_sockets.specs.sockets.Retransmitting.{RunsT3, SocketsRunT3}
-use Rattle.dcsctp_delivery_sockets.proofs.sockets.Actions.{TransferIs}
 use Rattle.dcsctp_delivery_sockets.proofs.sockets.Turns.{SameKinds, EndpointIs}
 use Rattle.dcsctp_delivery_sockets.proofs.sockets.Calm.{GoodTurn, good_turn, Known, ActIs}
 use Rattle.dcsctp_delivery_sockets.proofs.sockets.Sides.{SideIs, acted_side, rested_side}
@@ -215,19 +212,3 @@ shown_tags_suffice law options run are runs honest fresh = (
     together : OneTakesThePlace options run → (side : Side) → SendsLittleTogether (of_side side (turns_after run))
     together one sides.A old link has has' same other = one.little sides.A old link (h.a.past.among old has) (h.a.past.among link has') same other
     together one sides.B old link has has' same other = one.little sides.B old link (h.b.past.among old has) (h.b.past.among link has') same other
-
--- ---- timers
-
-t3_runs : (kinds : Capabilities) (transfer : Option Transfer) → TransferIs kinds transfer → RunsT3 transfer
-t3_runs kinds None is = tt
-t3_runs kinds (Some transfer) is = is.1.runs
-
-pub sockets_run_t3 : DeliveryLaws → SocketsRunT3
-sockets_run_t3 law options run are runs honest fresh side = of_each side
-  where
-    h : BothSides (kinds_of options) options (turns_after run) (identities_shown sides.A options run) (identities_shown sides.B options run)
-    h = both_sides law (kinds_of options) options are run runs honest (both_good law options run are runs honest fresh)
-
-    of_each : (side : Side) → RunsT3 (endpoint_after (of_side side options) (of_side side (turns_after run))).queues.transfer
-    of_each sides.A = t3_runs (kinds_of options) (endpoint_after options.a (turns_after run).a).queues.transfer h.a.is.left
-    of_each sides.B = t3_runs (kinds_of options) (endpoint_after options.b (turns_after run).b).queues.transfer h.b.is.left

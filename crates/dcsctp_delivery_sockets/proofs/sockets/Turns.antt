@@ -24,7 +24,6 @@ use Rattle.dcsctp_delivery_sockets.proofs.turns.Turns.{own_peer, none_calm, turn
 use Rattle.dcsctp_delivery_sockets.proofs.turns.Data.{turn_link, flush_makes}
 use Rattle.dcsctp_spec_lemmas.specs.spec.endpoint.PreparedResets.{ResetRefusal, endpoint_with_queue, reset_refusal, PreparesUnlessRefused}
 use Rattle.dcsctp_spec_lemmas.specs.spec.queues.OwnResets.{prepared_all, prepare_all_events}
-use Rattle.dcsctp_delivery_sockets.proofs.sockets.Timed.{new_timed, kept_timed}
 use Rattle.dcsctp_delivery_sockets.proofs.sockets.Allowed.{ContentsAllowed, AreAllowed}
 use Rattle.dcsctp_delivery_sockets.proofs.sockets.Actions.{TransferIs, events_both, LedgerIs, of_known, actions_are}
 
@@ -199,7 +198,7 @@ module _ (kinds : Capabilities) where
       let start : SameKinds begun.held.capabilities kinds × (begun.my.first_tsn < 2 ^ 32) = so opened in
       let made : MadeIs (inside o.after) (packets_of_events o.events) =
       makes_is came begun.held.peer.tag (λ queued. queued) (λ read. read) (record { queues = opening_queues e o begun; own = Some (record { number = None; next = begun.my.first_tsn; again = again }) }) (inside o.after) (packets_of_events o.events)
-      (record { left = (start.0, new_timed e.options begun.my.first_tsn begun.window begun.held.capabilities.partial_reliability begun.held.capabilities.message_interleaving); asks = (record { first = begun.my.first_tsn; asking = nothing_asked; fits = nothing_fits begun.my.first_tsn again start.1 }) }) makes in
+      (record { left = start.0; asks = (record { first = begun.my.first_tsn; asking = nothing_asked; fits = nothing_fits begun.my.first_tsn again start.1 }) }) makes in
       record {
         moves = link_begins opened;
         after = record { linked = subst (LinkIs kinds) (sym linked) start.0; left = made.inside_is.left; asks = made.inside_is.asks };
@@ -212,7 +211,7 @@ module _ (kinds : Capabilities) where
       let made : MadeIs (inside o.after) (packets_of_events o.events) =
       makes_is came opened.link.peer.tag (λ queued. queued) (λ read. read) (kept_inside collision again) (inside o.after) (packets_of_events o.events)
       (record {
-        left = (let same = collision.kept_is.2 in subst (λ (t : Transfer). TransferIs kinds (Some t)) (sym same) (left.0, kept_timed collision.kept_is.0 e.options collision.kept_is.1 collision.transfer.retransmission left.1));
+        left = (let same = collision.kept_is.2 in subst (λ (t : Transfer). TransferIs kinds (Some t)) (sym same) left);
         asks = record { first = opened.link.my.first_tsn; asking = nothing_asked; fits = nothing_fits opened.link.my.first_tsn again start.1 };
       }) makes in
       record {

@@ -3,13 +3,11 @@
 use Rattle.std.specs.Prelude.{List, [], ◌∷◌, Option, None, Some}
 use Rattle.dcsctp_spec_lemmas.specs.types.declared.options.Options.{Options}
 use Rattle.dcsctp_spec_lemmas.specs.types.declared.schedule.Side.{Side}
-use Rattle.dcsctp_spec_lemmas.specs.types.Schedule.{AreHonest}
 use Rattle.dcsctp_spec_lemmas.specs.spec.endpoint.Timers.{RunningTimer}
 use Rattle.dcsctp_spec_lemmas.specs.spec.queues.Items.{Item}
 use Rattle.dcsctp_spec_lemmas.specs.spec.queues.Transfer.{Transfer}
 use Rattle.dcsctp_spec_runs.specs.Deadlines.{IsRunning}
-use Rattle.dcsctp_spec_runs.specs.Sockets.{PerformedAct, Both, of_side, acts_of, turns_after, endpoint_after, SocketRun}
-use Rattle.dcsctp_theorem_sockets.specs.Agreement.{AreUsable, AreFresh}
+use Rattle.dcsctp_spec_runs.specs.Sockets.{PerformedAct, Both, of_side, turns_after, endpoint_after, SocketRun}
 
 -- It runs, if there are such items.
 abbrev pub RunsForItems : List Item → Option RunningTimer → Type 0
@@ -21,8 +19,8 @@ abbrev pub RunsT3 : Option Transfer → Type 0
 RunsT3 None = Unit {0}
 RunsT3 (Some transfer) = RunsForItems transfer.retransmission.outstanding.items transfer.retransmission.timer.running
 
--- So it is at each socket of an honest run in which no tag was drawn twice.
+-- So it is at each socket of a run.
 abbrev pub SocketsRunT3 : Type 0
 SocketsRunT3 =
-    (options : Both Options) (run : List PerformedAct) → AreUsable options → SocketRun options run → AreHonest (acts_of run) → AreFresh (turns_after run) → (side : Side)
+    (options : Both Options) (run : List PerformedAct) → SocketRun options run → (side : Side)
     → RunsT3 (endpoint_after (of_side side options) (of_side side (turns_after run))).queues.transfer

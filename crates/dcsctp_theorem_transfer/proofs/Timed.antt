@@ -20,7 +20,7 @@ use Rattle.dcsctp_spec_lemmas.specs.spec.endpoint.FlushOutcomes.{FillsIfAllowed,
 use Rattle.dcsctp_spec_lemmas.specs.spec.endpoint.Timers.{RunningTimer, TimerModel, running_after, timer_after_expiry, backed_off, is_timer_expired, started_timer, may_restart, next_expiries, continued_timer}
 use Rattle.dcsctp_spec_lemmas.specs.spec.endpoint.TransferMoves.{timed_transfer, TakesSack}
 use Rattle.dcsctp_spec_runs.specs.Deadlines.{IsRunning}
-use Rattle.dcsctp_delivery_sockets.specs.sockets.Retransmitting.{RunsForItems}
+use Rattle.dcsctp_theorem_transfer.specs.Retransmitting.{RunsForItems}
 
 -- ---- a timer without a last restart
 
@@ -51,9 +51,9 @@ stopped : (timer : TimerModel) → IsEndless timer → IsEndless (record timer {
 stopped timer endless = record { next = endless.next; now = tt }
 
 -- Once it is set for these items it runs for them.
-record IsSet (items : List Item) (timer : TimerModel) : Type 0 where
-  runs : RunsForItems items timer.running
-  endless : IsEndless timer
+pub record IsSet (items : List Item) (timer : TimerModel) : Type 0 where
+  pub runs : RunsForItems items timer.running
+  pub endless : IsEndless timer
 
 kept_set : (now : ℕ) (items : List Item) (timer : TimerModel) (running : Option RunningTimer) → timer.running ≡ running → IsEndless timer → IsSet items (kept_running now timer)
 kept_set now items timer None is endless =
@@ -63,7 +63,7 @@ kept_set now items timer (Some one) is endless =
     subst (λ (b : Bool). IsSet items (if b then timer else record timer { running = started_timer now timer.settings })) (sym (ap (λ (r : Option RunningTimer). is_some r) is))
     (record { runs = running_for items timer.running (subst IsRunning (sym is) tt); endless = endless })
 
-timer_set : (now : ℕ) (items : List Item) (timer : TimerModel) → IsEndless timer → IsSet items (timer_with now items timer)
+pub timer_set : (now : ℕ) (items : List Item) (timer : TimerModel) → IsEndless timer → IsSet items (timer_with now items timer)
 timer_set now [] timer endless = record { runs = tt; endless = stopped timer endless }
 timer_set now (item ∷ items) timer endless = kept_set now (item ∷ items) timer timer.running refl endless
 

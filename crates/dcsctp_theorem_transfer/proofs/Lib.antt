@@ -1,0 +1,20 @@
+pub mod Layers
+pub mod Handshakes
+pub mod Shutdowns
+pub mod DataTurns
+pub mod Chunks
+pub mod Turns
+mod Timed
+mod TimedRuns
+mod Controls
+mod Wide
+mod Delayed
+mod Following
+mod PacketEnds
+mod Asking
+mod Opening
+mod Dropping
+mod Settling
+mod SettledTurns
+mod SettledCalls
+mod SettledRuns

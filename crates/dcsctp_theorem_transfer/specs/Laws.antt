@@ -1,0 +1,13 @@
+-- What is known of the transfer layer of an association, whatever is lost.
+use Rattle.dcsctp_theorem_transfer.specs.Deadlines.{RunningTimersCount}
+use Rattle.dcsctp_theorem_transfer.specs.Delaying.{SocketsAcknowledge}
+use Rattle.dcsctp_theorem_transfer.specs.Owing.{SocketsOweInTime}
+use Rattle.dcsctp_theorem_transfer.specs.Retransmitting.{SocketsRunT3}
+use Rattle.dcsctp_theorem_transfer.specs.Windows.{SocketsHoldPacket}
+
+pub record TransferLaws : Type 0 where
+  pub t3 : SocketsRunT3
+  pub acknowledgements : SocketsAcknowledge
+  pub owing : SocketsOweInTime
+  pub windows : SocketsHoldPacket
+  pub timers : RunningTimersCount

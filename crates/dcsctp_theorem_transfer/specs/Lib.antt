@@ -1,0 +1,6 @@
+pub mod Retransmitting
+pub mod Windows
+pub mod Delaying
+pub mod Deadlines
+pub mod Laws
+pub mod Owing
