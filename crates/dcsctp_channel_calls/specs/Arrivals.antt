@@ -1,5 +1,5 @@
 -- What is done with a message of the peer (RFC 8831, section 6.6; RFC 8832, section 6).
-use Rattle.std.specs.Prelude.{◌≡◌, ◌==◌, ℕ, ◌+◌, Bool, true, false, not, ◌&&◌, Option, Some, None, Result, Ok, Err, length, nat_lt, if◌then◌else◌}
+use Rattle.std.specs.Prelude.{◌≡◌, ◌==◌, ◌<◌, ℕ, ◌+◌, ◌^◌, Bool, true, false, not, ◌&&◌, Option, Some, None, Result, Ok, Err, length, nat_lt, if◌then◌else◌}
 use Rattle.dcsctp_api.specs.types.queues.Messages.{MessageContent}
 use Rattle.dcsctp_api.specs.declared.errors.SendError.{SendError}
 use Rattle.dcsctp_api.specs.Calls.{UserView, socket_state_of}
@@ -98,6 +98,7 @@ view_after_ack (Err refusal) number held below layer = record { below = below; l
 
 -- The ACK that a stream owes goes out; or the socket refuses it.
 pub record SendsAck (number : ℕ) (held : HeldStream) (old new : ChannelsView) : Type 0 where
+  pub fits : number < 2 ^ 16
   pub answer : Result (Unit {0}) SendError
   pub below : UserView
   pub sends : SendsMessage (control_message number ack_bytes) plainly old.below (Ok answer) below

@@ -1,5 +1,5 @@
 -- What was put off: resets until all that was sent has left (RFC 8831, section 6.7), ACKs and OPENs until there is room.
-use Rattle.std.specs.Prelude.{◌≡◌, ◌==◌, ℕ, ◌+◌, min, Bool, true, false, not, ◌&&◌, ◌||◌, Option, Some, None, Result, Ok, Err, List, [], ◌∷◌, nat_lt}
+use Rattle.std.specs.Prelude.{◌≡◌, ◌==◌, ◌<◌, ℕ, ◌+◌, ◌^◌, min, Bool, true, false, not, ◌&&◌, ◌||◌, Option, Some, None, Result, Ok, Err, List, [], ◌∷◌, nat_lt}
 use Rattle.dcsctp_api.specs.Calls.{UserView, stream_shown}
 use Rattle.dcsctp_channel_messages.specs.channel_spec.declared.types.Role.{Role}
 use Rattle.dcsctp_channel_messages.specs.channel_spec.Slots.{SlotInput, all_is_sent, cannot_reset}
@@ -53,6 +53,7 @@ reset_input (Ok done) = all_is_sent
 reset_input (Err error) = cannot_reset
 
 pub record ResetsStream (number : ℕ) (held : HeldStream) (old new : ChannelsView) : Type 0 where
+  pub fits : number < 2 ^ 16
   pub answer : Result (Unit {0}) ResetStreamsError
   pub below : UserView
   pub resets : ResetsOwn (number ∷ []) old.below (Ok answer) below

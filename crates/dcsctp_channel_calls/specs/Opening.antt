@@ -1,5 +1,5 @@
 -- How channels are opened, and get their streams (RFC 8832, section 6).
-use Rattle.std.specs.Prelude.{◌≡◌, ◌≢◌, ◌<◌, ℕ, zero, suc, ◌+◌, Bool, true, false, ◌&&◌, ◌||◌, Option, Some, None, is_some, Result, Ok, Err, List, [], ◌∷◌, ◌++◌, length, nat_lt, if◌then◌else◌}
+use Rattle.std.specs.Prelude.{◌≡◌, ◌≢◌, ◌<◌, ℕ, zero, suc, ◌+◌, ◌^◌, Bool, true, false, ◌&&◌, ◌||◌, Option, Some, None, is_some, Result, Ok, Err, List, [], ◌∷◌, ◌++◌, length, nat_lt, if◌then◌else◌}
 use Rattle.dcsctp_api.specs.types.Setting.{stream_priority, stream_low_threshold}
 use Rattle.dcsctp_api.specs.declared.errors.SendError.{SendError}
 use Rattle.dcsctp_api.specs.Calls.{UserView, Sets}
@@ -40,6 +40,7 @@ priority_of (suc priority) = suc priority
 
 -- A stream gets its channel's priority, and the threshold 0.
 pub record ReadiesStream (number priority : ℕ) (old new : UserView) : Type 0 where
+  pub fits : number < 2 ^ 16
   pub between : UserView
   pub priority_set : Sets (stream_priority number (priority_of priority)) old (Ok tt) between
   pub threshold_set : Sets (stream_low_threshold number 0) between (Ok tt) new

@@ -1,5 +1,5 @@
 -- What is sent, and how (RFC 8831, section 6.6; RFC 8832, section 6); closes and thresholds.
-use Rattle.std.specs.Prelude.{◌≡◌, ◌==◌, ℕ, ◌+◌, ◌*◌, min, Bool, true, false, not, ◌&&◌, Option, Some, None, Result, Ok, Err, List, [], ◌∷◌, ◌++◌, length, if◌then◌else◌}
+use Rattle.std.specs.Prelude.{◌≡◌, ◌==◌, ◌<◌, ℕ, ◌+◌, ◌*◌, ◌^◌, min, Bool, true, false, not, ◌&&◌, Option, Some, None, Result, Ok, Err, List, [], ◌∷◌, ◌++◌, length, if◌then◌else◌}
 use Rattle.std.specs.Duration.{as_nanos}
 use Rattle.std.specs.declared.time.Duration.{Duration}
 use Rattle.dcsctp_api.specs.types.Setting.{stream_low_threshold}
@@ -83,6 +83,7 @@ refusal_as (Err refusal) = Err (errors.Refused refusal)
 
 -- The socket takes the message on the channel's stream, and it is counted; or the socket refuses it.
 pub record SendsOn (number : ℕ) (held : HeldStream) (content : ChannelContent) (answer : Result (Unit {0}) ChannelError) (old new : ChannelsView) : Type 0 where
+  pub fits : number < 2 ^ 16
   pub how : SendOptions
   pub sending : IsSendingOn held how
   pub taken : Result (Unit {0}) SendError
@@ -123,6 +124,7 @@ channel_closed name layer = layer_after_close (stream_of_name layer name) name l
 -- ---- the threshold of a channel
 
 pub record SetsThreshold (number bytes : ℕ) (old new : ChannelsView) : Type 0 where
+  pub fits : number < 2 ^ 16
   pub below : UserView
   pub sets : Sets (stream_low_threshold number bytes) old.below (Ok tt) below
   pub is : new ≡ record old { below = below }

@@ -1,0 +1,11 @@
+pub mod QuietTurns
+pub mod Said
+pub mod Paths
+pub mod Moves
+pub mod Sockets
+pub mod Rows
+pub mod Begins
+pub mod Polls
+pub mod Calls
+pub mod Matching
+pub mod Run
