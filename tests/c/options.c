@@ -432,6 +432,29 @@ static void streams(void) {
     destroy_pair(&pair);
 }
 
+/* Three messages of two parts each don't fit together into the peer's window. If all are begun at once, none that is
+ * missing its end has room for it. One after another they arrive. */
+static void interleaved_window(void) {
+    for (uint32_t follow_rfc = 0; follow_rfc < 2; follow_rfc++) {
+        dcsctp_options options = quiet_options();
+        options.enable_message_interleaving = 1;
+        options.follow_rfc = follow_rfc;
+        options.max_receiver_window_buffer_size = 2000;
+        connect_pair(&pair, &options, &options);
+        for (uint16_t stream = 0; stream < 3; stream++)
+            EQUAL("send", send_bytes(&pair.a, stream, 1200), DCSCTP_OK);
+        size_t messages = 0;
+        for (int tenths = 0; tenths < 600; tenths++) {
+            while (carry(&pair.a, &pair.b) + carry(&pair.b, &pair.a) > 0)
+                messages += take_messages(&pair.b, 1200);
+            messages += take_messages(&pair.b, 1200);
+            pass(&pair, 100 * MILLISECONDS);
+        }
+        EQUAL("all arrive", messages == 3, !follow_rfc);
+        destroy_pair(&pair);
+    }
+}
+
 /* The event comes if more than the threshold was queued. */
 static void total_threshold(void) {
     const struct {
@@ -868,6 +891,7 @@ int main(void) {
     checksums();
     send_buffers();
     streams();
+    interleaved_window();
     total_threshold();
     congestion();
     bursts();
