@@ -18,3 +18,7 @@ mod Settling
 mod SettledTurns
 mod SettledCalls
 mod SettledRuns
+mod Resending
+mod ResendingFlush
+mod ResendingLosses
+mod Leaving

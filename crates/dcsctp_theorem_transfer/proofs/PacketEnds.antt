@@ -44,14 +44,14 @@ told_none (message_has_expired id ∷ told) rest = told_none told rest
 told_none (message_ends id ∷ told) rest = told_none told rest
 
 -- The first packet begins with this chunk.
-record BeginsWith (content : Content) (packets : List Emission) : Type 0 where
-  first : Emission
-  others : List Emission
-  are : packets ≡ first ∷ others
-  more : List Content
-  contents : first.packet.contents ≡ content ∷ more
+pub record BeginsWith (content : Content) (packets : List Emission) : Type 0 where
+  pub first : Emission
+  pub others : List Emission
+  pub are : packets ≡ first ∷ others
+  pub more : List Content
+  pub contents : first.packet.contents ≡ content ∷ more
 
-out_first : (e : Endpoint) (told : List FillingEvent) (with_checksum : Bool) (tag : ℕ) (content : Content) (more : List Content) (rest : List (Event Emission))
+pub out_first : (e : Endpoint) (told : List FillingEvent) (with_checksum : Bool) (tag : ℕ) (content : Content) (more : List Content) (rest : List (Event Emission))
     → BeginsWith content (packets_of_events ((goes_out e (map filling_event told) with_checksum tag (content ∷ more)).events ++ rest))
 out_first e told with_checksum tag content more rest =
     let emission : Emission = record { with_checksum = with_checksum; packet = record { tag = tag; contents = content ∷ more } } in

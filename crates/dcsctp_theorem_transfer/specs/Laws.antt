@@ -1,7 +1,9 @@
 -- What is known of the transfer layer of an association, whatever is lost.
 use Rattle.dcsctp_theorem_transfer.specs.Deadlines.{RunningTimersCount}
 use Rattle.dcsctp_theorem_transfer.specs.Delaying.{SocketsAcknowledge}
+use Rattle.dcsctp_theorem_transfer.specs.Leaving.{DataLeaves}
 use Rattle.dcsctp_theorem_transfer.specs.Owing.{SocketsOweInTime}
+use Rattle.dcsctp_theorem_transfer.specs.Resending.{LostDataIsSentAgain}
 use Rattle.dcsctp_theorem_transfer.specs.Retransmitting.{SocketsRunT3}
 use Rattle.dcsctp_theorem_transfer.specs.Windows.{SocketsHoldPacket}
 
@@ -11,3 +13,5 @@ pub record TransferLaws : Type 0 where
   pub owing : SocketsOweInTime
   pub windows : SocketsHoldPacket
   pub timers : RunningTimersCount
+  pub resending : LostDataIsSentAgain
+  pub leaving : DataLeaves

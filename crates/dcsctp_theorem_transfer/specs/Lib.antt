@@ -4,3 +4,5 @@ pub mod Delaying
 pub mod Deadlines
 pub mod Laws
 pub mod Owing
+pub mod Resending
+pub mod Leaving

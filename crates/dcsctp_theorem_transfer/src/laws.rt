@@ -3,7 +3,9 @@
 ghost use Rattle.dcsctp_theorem_transfer.specs.Deadlines.{RunningTimersCount};
 ghost use Rattle.dcsctp_theorem_transfer.specs.Delaying.{SocketsAcknowledge};
 ghost use Rattle.dcsctp_theorem_transfer.specs.Laws.{TransferLaws};
+ghost use Rattle.dcsctp_theorem_transfer.specs.Leaving.{DataLeaves};
 ghost use Rattle.dcsctp_theorem_transfer.specs.Owing.{SocketsOweInTime};
+ghost use Rattle.dcsctp_theorem_transfer.specs.Resending.{LostDataIsSentAgain};
 ghost use Rattle.dcsctp_theorem_transfer.specs.Retransmitting.{SocketsRunT3};
 ghost use Rattle.dcsctp_theorem_transfer.specs.Windows.{SocketsHoldPacket};
 
@@ -50,6 +52,19 @@ pub fn running_timers_count()
     ensures { RunningTimersCount }
 {}
 
+/// What is lost is sent again: once T3 expires, the flush after it begins with the lowest TSN that isn't acknowledged
+/// (RFC 9260, section 6.3.3, E3). Here of an open association that has nothing else to say, and whose messages have no
+/// limit.
+pub fn lost_data_is_sent_again()
+    ensures { LostDataIsSentAgain }
+{}
+
+/// Both ends of an acknowledgement: data that is the next one expected moves the cumulative TSN past it, and as many
+/// chunks leave what is outstanding as a SACK's cumulative TSN acknowledges (RFC 9260, sections 6.2 and 6.2.1).
+pub fn data_leaves()
+    ensures { DataLeaves }
+{}
+
 /// All that is known of the transfer layer of an association: the laws above.
 pub fn transfer_laws()
     ensures { TransferLaws }
@@ -59,4 +74,6 @@ pub fn transfer_laws()
     sockets_acknowledge();
     sockets_owe_in_time();
     running_timers_count();
+    lost_data_is_sent_again();
+    data_leaves();
 }

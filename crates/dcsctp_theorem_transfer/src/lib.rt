@@ -6,6 +6,6 @@
 mod laws;
 
 pub use laws::{
-    running_timers_count, sockets_acknowledge, sockets_hold_packet, sockets_owe_in_time,
-    sockets_run_t3, transfer_laws,
+    data_leaves, lost_data_is_sent_again, running_timers_count, sockets_acknowledge,
+    sockets_hold_packet, sockets_owe_in_time, sockets_run_t3, transfer_laws,
 };
