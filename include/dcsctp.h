@@ -762,10 +762,8 @@ typedef struct dcsctp_send_options {
  * section 6.5), unless it is this library.
  *
  * A message longer than nine tenths of the peer's receive window may never arrive, and one longer
- * than all of it can't, whatever `follow_rfc` is at either end. Where messages interleave, that
- * goes for all those together that wait on streams at the same time. A peer with `follow_rfc`
- * counts 256 bytes more for each part. No event reports it, and later messages aren't delivered
- * either.
+ * than all of it can't, whatever `follow_rfc` is at either end. A peer with `follow_rfc` counts
+ * 256 bytes more for each part. No event reports it, and later messages aren't delivered either.
  *
  * Errors: NO_SOCKET, INVALID_SEND_OPTIONS, EMPTY_PAYLOAD, MESSAGE_TOO_LARGE, SHUTTING_DOWN,
  * RESOURCE_EXHAUSTION, FAILED, OUT_OF_MEMORY. */
@@ -840,9 +838,10 @@ int32_t dcsctp_set_buffered_amount_low_threshold(dcsctp_socket *socket, uint16_t
 /* Writes the priority of a stream. The stream with the greatest priority is sent first. Those with
  * the same priority take turns, a message each. With message interleaving a turn is a packet's
  * worth of bytes, and a greater priority doesn't wait for the end of a message, unless that has a
- * lifetime or a limit on retransmissions; dcsctp_send says how much may then wait. Without
- * `follow_rfc` the lowest stream number is sent first as long as it has messages. So give an
- * urgent stream a greater priority.
+ * lifetime or a limit on retransmissions. A message of more than one packet is begun only once the
+ * peer's receive window has room for it beside those under way, each counted twice; until then the
+ * first of these goes on. Without `follow_rfc` the lowest stream number is sent first as long as it
+ * has messages. So give an urgent stream a greater priority.
  * Error: NO_SOCKET. */
 int32_t dcsctp_get_stream_priority(const dcsctp_socket *socket, uint16_t stream_id,
                                    uint16_t *priority) DCSCTP_CALL;

@@ -432,25 +432,38 @@ static void streams(void) {
     destroy_pair(&pair);
 }
 
-/* Three messages of two parts each don't fit together into the peer's window. If all are begun at once, none that is
- * missing its end has room for it. One after another they arrive. */
+/* Messages that don't fit together into the peer's window, with 256 bytes for each part. If all were begun at once, none
+ * that is missing its end would have room for it. All arrive. */
 static void interleaved_window(void) {
-    for (uint32_t follow_rfc = 0; follow_rfc < 2; follow_rfc++) {
+    const struct {
+        const char *name;
+        size_t window, bytes;
+        uint16_t streams;
+    } rows[] = {
+        {"two parts each", 2000, 1200, 3},
+        {"half the window each", 131072, 65536, 3},
+        {"more than half the window each", 200000, 120000, 2},
+        {"the longest messages in the default window", 5242880, 262144, 24},
+        {"many streams", 5242880, 1200, 4000},
+    };
+    for (size_t row = 0; row < 2 * (sizeof rows / sizeof rows[0]); row++) {
+        size_t i = row / 2;
         dcsctp_options options = quiet_options();
         options.enable_message_interleaving = 1;
-        options.follow_rfc = follow_rfc;
-        options.max_receiver_window_buffer_size = 2000;
+        options.follow_rfc = row % 2;
+        options.max_receiver_window_buffer_size = rows[i].window;
+        options.max_send_buffer_size = 100000000;
         connect_pair(&pair, &options, &options);
-        for (uint16_t stream = 0; stream < 3; stream++)
-            EQUAL("send", send_bytes(&pair.a, stream, 1200), DCSCTP_OK);
+        for (uint16_t stream = 0; stream < rows[i].streams; stream++)
+            EQUAL("send", send_bytes(&pair.a, stream, rows[i].bytes), DCSCTP_OK);
         size_t messages = 0;
-        for (int tenths = 0; tenths < 600; tenths++) {
+        for (int tenths = 0; tenths < 600 && messages < rows[i].streams; tenths++) {
             while (carry(&pair.a, &pair.b) + carry(&pair.b, &pair.a) > 0)
-                messages += take_messages(&pair.b, 1200);
-            messages += take_messages(&pair.b, 1200);
+                messages += take_messages(&pair.b, rows[i].bytes);
+            messages += take_messages(&pair.b, rows[i].bytes);
             pass(&pair, 100 * MILLISECONDS);
         }
-        EQUAL("all arrive", messages == 3, !follow_rfc);
+        EQUAL(rows[i].name, messages, rows[i].streams);
         destroy_pair(&pair);
     }
 }

@@ -37,7 +37,7 @@ resumed context = record (view_of context) { endpoint = resumed_heartbeats (endp
 
 -- the queue with what the snapshot has
 abbrev queue_by : {R : Type 0} → Context R → Snapshot → SendQueueState
-queue_by context state = queue_restored context.moment state.tx (numbered_for state.capabilities.message_interleaving context.send_queue)
+queue_by context state = queue_restored context.moment state.tx (numbered_for state.capabilities.message_interleaving state.tx.rwnd context.send_queue)
 
 endpoint_is : {R : Type 0} (other old : Context R) (state : Snapshot) (tcb : TransmissionControlBlock) (added : List SocketEvent) (queue : SendQueueState)
     → other.left.items ≡ [] → IsRestoredAssociation old.options old.moment state tcb → queue ≡ queue_by old state

@@ -100,7 +100,7 @@ pub fn restore<R: Rng>(
     let tcb = restored_association(context.alloc, &context.options, now, state)?;
     context
         .send_queue
-        .enable_message_interleaving(state.capabilities.message_interleaving);
+        .enable_message_interleaving(state.capabilities.message_interleaving, state.tx.rwnd);
     context.send_queue.restore_from_state(now, &state.tx)?;
     context.state = State::Open(OpenState {
         phase: OpenPhase::Established,

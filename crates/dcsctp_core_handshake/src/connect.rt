@@ -203,8 +203,10 @@ fn echo_cookie<R: Rng>(
     let tie_tag = context.draw_u64()?;
     context.peer_implementation = implementation_of(cookie);
     let interleaving = peer.capabilities.message_interleaving;
-    context.send_queue.enable_message_interleaving(interleaving);
     context.send_queue.reset();
+    context
+        .send_queue
+        .enable_message_interleaving(interleaving, peer.a_rwnd);
     let duration = context.options.t1_cookie_timeout;
     context.state = State::CookieEchoed(CookieEchoState {
         t1_cookie: started_t1(&context.options, context.moment, duration),

@@ -69,7 +69,9 @@ fn begin_association<R: Rng>(context: &mut Context<R>, cookie: &StateCookie, tie
     let peer = peer_by_cookie(&context.options, cookie);
     let my = own_by_cookie(cookie);
     let interleaving = peer.capabilities.message_interleaving;
-    context.send_queue.enable_message_interleaving(interleaving);
+    context
+        .send_queue
+        .enable_message_interleaving(interleaving, peer.a_rwnd);
     let tcb = TransmissionControlBlock::new(context.alloc, &context.options, my, &peer, tie_tag);
     hold(context, tcb);
 }

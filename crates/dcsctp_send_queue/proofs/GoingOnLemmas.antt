@@ -8,7 +8,7 @@ use Rattle.dcsctp_api.specs.types.declared.ids.StreamId.{StreamId}
 use Rattle.dcsctp_api.specs.types.declared.sending.UnderWay.{UnderWay}
 use Rattle.dcsctp_api.specs.types.queues.SendStreams.{Waiting, Stream, front_of, without_front, stream_with_progress, stream_with_turn_bytes, stream_counted, served_stream, fills_turn, stream_at, IsAscending}
 use Rattle.dcsctp_send_queue.specs.Ranking.{IsFound}
-use Rattle.dcsctp_api.specs.spec.queues.Sending.{Chooses, IsMessageUnderWay, Drops, none, more, reduced_queue, next_turn, next_progress, queue_with_stream, queue_numbered, queue_served, queue_with_turn_bytes, fragment_counted, progress_after, released_queue, stream_held_after, is_kept_whole, after_part, after_last, queue_after_producing, is_last, without_rest}
+use Rattle.dcsctp_api.specs.spec.queues.Sending.{Chooses, IsMessageUnderWay, Drops, none, more, reduced_queue, next_turn, next_progress, queue_with_stream, queue_numbered, queue_served, queue_with_turn_bytes, fragment_counted, progress_after, reserve_begun, released_queue, stream_held_after, is_kept_whole, after_part, after_last, queue_after_producing, is_last, without_rest}
 use Rattle.dcsctp_send_queue.proofs.StreamLemmas.{stream_at-set, length-set_at, counted-id, counted-messages, counted-under_way}
 use Rattle.dcsctp_send_queue.proofs.NextLemmas.{same_place, absent_at}
 use Rattle.dcsctp_send_queue.proofs.QueueLemmas.{set-set}
@@ -30,6 +30,8 @@ pub record KeepsAt (p : ℕ) (queue after : SendQueueState) : Type 0 where
   pub under_way : stream.under_way ≡ (stream_at queue.streams p).under_way
   pub held : after.held ≡ queue.held
   pub interleaves : queue_interleaves after ≡ queue_interleaves queue
+  pub window : after.window ≡ queue.window
+  pub reserved : after.reserved ≡ queue.reserved
 
 -- the stream at the place
 pub kept_at : (p : ℕ) (queue after : SendQueueState) → p < length queue.streams → (keeps : KeepsAt p queue after) → stream_at after.streams p ≡ keeps.stream
@@ -47,6 +49,8 @@ keeps_with p queue after s lt keeps id messages under_way =
       under_way = under_way ∙ (ap (λ x. x.under_way) at ∙ keeps.under_way);
       held = keeps.held;
       interleaves = keeps.interleaves;
+      window = keeps.window;
+      reserved = keeps.reserved;
     }
 
 keeps_reduced : (p size : ℕ) (queue : SendQueueState) → KeepsAt p queue (reduced_queue p size queue)
@@ -59,6 +63,8 @@ keeps_reduced p size queue =
       under_way = refl;
       held = refl;
       interleaves = refl;
+      window = refl;
+      reserved = refl;
     }
 
 keeps_numbered : (b : Bool) (p : ℕ) (is_unordered : Bool) (queue after : SendQueueState) → p < length queue.streams → KeepsAt p queue after → KeepsAt p queue (queue_numbered p b is_unordered after)
@@ -71,7 +77,7 @@ keeps_numbered false p is_unordered queue after lt keeps = keeps
 keeps_served : (b : Bool) (p : ℕ) (queue after : SendQueueState) → p < length queue.streams → KeepsAt p queue after → KeepsAt p queue (queue_served p b after)
 keeps_served true p queue after lt keeps =
     let k = keeps_with p queue after (served_stream (next_turn after) (stream_at after.streams p)) lt keeps refl refl refl in
-    record { stream = k.stream; is = k.is; id = k.id; messages = k.messages; under_way = k.under_way; held = k.held; interleaves = k.interleaves }
+    record { stream = k.stream; is = k.is; id = k.id; messages = k.messages; under_way = k.under_way; held = k.held; interleaves = k.interleaves; window = k.window; reserved = k.reserved }
 keeps_served false p queue after lt keeps = keeps
 
 keeps_turn : (b : Bool) (p : ℕ) (begins : Bool) (size : ℕ) (queue after : SendQueueState) → p < length queue.streams → KeepsAt p queue after
@@ -105,7 +111,7 @@ can_continue p queue after message next lt keeps is front some less =
 
 -- what is held after a fragment that isn't the last, once it is counted
 pub held_counted : (p : ℕ) (queue after : SendQueueState) (id : StreamId) (message : Waiting) → KeepsAt p queue after → stream_held_after id message after ≡ stream_held_after id message queue
-held_counted p queue after id message keeps = rw keeps.interleaves refl
+held_counted p queue after id message keeps = rw (keeps.interleaves, keeps.window, keeps.reserved) refl
 
 part_held : (b : Bool) (p : ℕ) (queue after : SendQueueState) (next : UnderWay) (id : StreamId) → p < length queue.streams → KeepsAt p queue after → (stream_at queue.streams p).id ≡ id.0
     → IsHeld (if b then Some id else None) (set after.streams p (stream_with_progress next (stream_at after.streams p)))
@@ -124,12 +130,12 @@ part_held true p queue after next id lt keeps is =
     )
 part_held false p queue after next id lt keeps is = tt
 
-last_held : (p : ℕ) (queue after : SendQueueState) (id : ℕ) → p < length queue.streams → KeepsAt p queue after → IsHeld queue.held queue.streams → (stream_at queue.streams p).id ≡ id
-    → IsHeld (released_queue id after).held (set after.streams p (without_front (stream_at after.streams p)))
-last_held p queue after id lt keeps held is =
+last_held : (p : ℕ) (queue after : SendQueueState) (id reserve : ℕ) → p < length queue.streams → KeepsAt p queue after → IsHeld queue.held queue.streams → (stream_at queue.streams p).id ≡ id
+    → IsHeld (released_queue id reserve after).held (set after.streams p (without_front (stream_at after.streams p)))
+last_held p queue after id reserve lt keeps held is =
     let last : Stream = without_front (stream_at after.streams p) in
     let streams = ap (λ (t : List Stream). set t p last) keeps.is ∙ set-set queue.streams p keeps.stream last in
-    rw streams (held-released after queue.streams p id last (rw keeps.held held) is)
+    rw streams (held-released after queue.streams p id reserve last (rw keeps.held held) is)
 
 pub not_last : (rest max : ℕ) → nat_le rest max ≡ false → max < rest
 not_last rest max e = grind (arith, nat_tests)
@@ -139,7 +145,8 @@ produced_held : (queue : SendQueueState) (place max : ℕ) (message : Waiting) (
     → IsHeld (if b then after_last place message u queue else after_part place max message u queue).held (if b then after_last place message u queue else after_part place max message u queue).streams
 produced_held queue place max message u true lt is held =
     let size = length message.payload - u.sent in
-    last_held place queue (fragment_counted place size message u (reduced_queue place size queue)) u.stream_id.0 lt (keeps_counted place size message u queue lt) held is
+    last_held place queue (fragment_counted place size message u (reduced_queue place size queue)) u.stream_id.0 (reserve_begun (length message.payload) u) lt
+    (keeps_counted place size message u queue lt) held is
 produced_held queue place max message u false lt is held =
     part_held (is_kept_whole message queue) place queue (fragment_counted place max message u (reduced_queue place max queue)) (progress_after max u) u.stream_id lt
     (keeps_counted place max message u queue lt) is
@@ -183,9 +190,9 @@ pub going_front : (stream : Stream) → is_some stream.under_way ≡ true → Ca
 going_front stream some can = going_by stream stream.under_way refl some can
 
 -- the stream that is held is chosen
-pub chosen_held : (now : ℕ) (old : SendQueueState) (place : ℕ) (message : Waiting) (held : StreamId) (w : Option StreamId) → w ≡ Some held → (stream_at old.streams place).id ≡ held.0
-    → Chooses now old w old place message
-chosen_held now old place message held w e is = rw e (refl, is)
+pub chosen_held : (now max : ℕ) (old : SendQueueState) (place : ℕ) (held : StreamId) (w : Option StreamId) → w ≡ Some held → (stream_at old.streams place).id ≡ held.0
+    → Chooses now max old w old place
+chosen_held now max old place held w e is = rw e (refl, is)
 
 -- ---- a message that is named
 
@@ -210,11 +217,19 @@ lost_named queue stream message_id p lost named = absent_at queue.streams stream
 
 -- ---- a message that is dropped
 
+-- What is left of a message is dropped, and it takes nothing of the peer's window any more.
+pub discarded_is : (old dropped new : SendQueueState) (place : ℕ) (message : Waiting) (u : UnderWay) (id size reserve : ℕ) → size ≡ length message.payload → reserve ≡ reserve_begun size u
+    → dropped ≡ without_rest place u.sent message old → new ≡ released_queue id reserve dropped
+    → new ≡ released_queue id (reserve_begun (length message.payload) u) (without_rest place u.sent message old)
+discarded_is old dropped new place message u id size reserve same takes is after =
+    after ∙ (ap (λ (n : ℕ). released_queue id n dropped) (takes ∙ ap (λ (n : ℕ). reserve_begun n u) same)
+    ∙ ap {A = SendQueueState} (λ (q : SendQueueState). released_queue id (reserve_begun (length message.payload) u) q) is)
+
 -- The stream that is held has a message under way once the rest of another's is dropped, and it is held no longer if it was its own.
-pub held-discarded : (old : SendQueueState) (place sent : ℕ) (message : Waiting) (id : ℕ) → IsHeld old.held old.streams → (stream_at old.streams place).id ≡ id
-    → IsHeld (released_queue id (without_rest place sent message old)).held (without_rest place sent message old).streams
-held-discarded old place sent message id held is =
+pub held-discarded : (old : SendQueueState) (place sent : ℕ) (message : Waiting) (id reserve : ℕ) → IsHeld old.held old.streams → (stream_at old.streams place).id ≡ id
+    → IsHeld (released_queue id reserve (without_rest place sent message old)).held (without_rest place sent message old).streams
+held-discarded old place sent message id reserve held is =
     let less : Stream = record (stream_at old.streams place) { amount = (stream_at old.streams place).amount - (length message.payload - sent) } in
     let last : Stream = without_front (stream_at (set old.streams place less) place) in
     let streams = set-set old.streams place less last in
-    subst (λ (t : List Stream). IsHeld (released_queue id old).held t) (sym streams) (held-released old old.streams place id last held is)
+    subst (λ (t : List Stream). IsHeld (released_queue id reserve old).held t) (sym streams) (held-released old old.streams place id reserve last held is)

@@ -1,5 +1,5 @@
 -- The streams that are handed out, one after another.
-use Rattle.std.proofs.Common.{◌≡◌, ℕ, zero, suc, ◌<◌, Bool, true, false, if◌then◌else◌, is_some, Ok, Err, List, [], ◌∷◌, length, get_or, set, map, refl, sym, ap, subst, ◌∙◌, arith}
+use Rattle.std.proofs.Common.{◌≡◌, ℕ, zero, suc, ◌<◌, Bool, true, false, if◌then◌else◌, is_some, Ok, Err, List, [], ◌∷◌, length, get_or, set, map, refl, sym, ap, ◌∙◌, arith}
 use Rattle.dcsctp_api.specs.types.declared.ids.StreamId.{StreamId}
 use Rattle.dcsctp_api.specs.types.declared.sending.Pause.{Pause}
 use Rattle.dcsctp_api.specs.types.declared.sending.Pause.TheVariants.{Open, Pausing, HandedOut}
@@ -114,14 +114,6 @@ rolled_out_if HandedOut s e = rw e refl
 
 pub rolled_back-out : (s : Stream) → is_pause_handed_out (rolled_back s).pause ≡ false
 rolled_back-out s = rolled_out_if s.pause s refl
-
--- the first of the numbers is one of these streams
-pub front_out : (inside streams : List Stream) (ids : List StreamId) (n : ℕ) (id : StreamId) → inside ≡ streams → ids ≡ handed_out_ids inside → n ≡ length ids → 0 < n → id ≡ get_or ids 0 id
-    → (0 < length (handed_out_ids streams)) × (id ≡ get_or (handed_out_ids streams) 0 id)
-front_out inside streams ids n id same are len some is =
-    let all : ids ≡ handed_out_ids streams = are ∙ ap (λ (s : List Stream). handed_out_ids s) same in
-    let more : 0 < length ids = omega (arith, len, some) in
-    (subst (λ (xs : List StreamId). 0 < length xs) all more, subst (λ (xs : List StreamId). id ≡ get_or xs 0 id) all is)
 
 -- the stream that is found by the first of the numbers
 pub found_out : (streams : List Stream) (p : ℕ) (id : StreamId) → IsAscending streams → 0 < length (handed_out_ids streams) → id ≡ get_or (handed_out_ids streams) 0 id → IsFound streams id.0 (Ok p)

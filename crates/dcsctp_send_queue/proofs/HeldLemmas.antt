@@ -59,15 +59,15 @@ released_by : (b : Bool) (streams : List Stream) (p id : ℕ) (s : Stream) (held
 released_by true streams p id s held e is number = tt
 released_by false streams p id s held e is number = other_going streams p id s held is number (λ same. let t = same_test held.0 id same in cc)
 
-released_if : (queue : SendQueueState) (streams : List Stream) (p id : ℕ) (s : Stream) (held : Option StreamId) → queue.held ≡ held → IsHeld held streams → (stream_at streams p).id ≡ id
-    → IsHeld (released_queue id queue).held (set streams p s)
-released_if queue streams p id s None e is number = rw e tt
-released_if queue streams p id s (Some held) e is number = rw e (released_by (held.0 == id) streams p id s held refl is number)
+released_if : (queue : SendQueueState) (streams : List Stream) (p id reserve : ℕ) (s : Stream) (held : Option StreamId) → queue.held ≡ held → IsHeld held streams → (stream_at streams p).id ≡ id
+    → IsHeld (released_queue id reserve queue).held (set streams p s)
+released_if queue streams p id reserve s None e is number = rw e tt
+released_if queue streams p id reserve s (Some held) e is number = rw e (released_by (held.0 == id) streams p id s held refl is number)
 
 -- a change of a stream that is held no longer
-pub held-released : (queue : SendQueueState) (streams : List Stream) (p id : ℕ) (s : Stream) → IsHeld queue.held streams → (stream_at streams p).id ≡ id
-    → IsHeld (released_queue id queue).held (set streams p s)
-held-released queue streams p id s is number = released_if queue streams p id s queue.held refl is number
+pub held-released : (queue : SendQueueState) (streams : List Stream) (p id reserve : ℕ) (s : Stream) → IsHeld queue.held streams → (stream_at streams p).id ≡ id
+    → IsHeld (released_queue id reserve queue).held (set streams p s)
+held-released queue streams p id reserve s is number = released_if queue streams p id reserve s queue.held refl is number
 
 -- ---- one stream more
 

@@ -22,3 +22,4 @@ pub mod PlaceLemmas
 pub mod StreamLemmas
 pub mod TellingLemmas
 pub mod TurnLemmas
+pub mod UnderWayLemmas

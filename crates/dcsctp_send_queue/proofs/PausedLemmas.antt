@@ -125,3 +125,20 @@ with_id-first (x ∷ xs) id none = let e = less_false x.0 id.0 none.0 in rw e re
 pub with_id_if-behind : (is_in : Bool) (x id : StreamId) (ids : List StreamId) → x.0 < id.0 → x ∷ with_id_if is_in id ids ≡ with_id_if is_in id (x ∷ ids)
 with_id_if-behind true x id ids lt = let e = less_true x.0 id.0 lt in rw e refl
 with_id_if-behind false x id ids lt = refl
+
+longer_by : (x id : StreamId) (xs : List StreamId) (b : Bool) → 0 < length (with_id id xs) → length (if b then x ∷ with_id id xs else id ∷ x ∷ xs) ≡ 1 → x ∷ xs ≡ []
+longer_by x id xs true some one = absurd (omega (arith, some, one))
+longer_by x id xs false some one = absurd (omega (arith, one))
+
+some_with_id : (ids : List StreamId) (id : StreamId) → 0 < length (with_id id ids)
+some_with_id [] id = omega arith
+some_with_id (x ∷ xs) id = go (nat_lt x.0 id.0)
+  where
+    go : (b : Bool) → 0 < length (if b then x ∷ with_id id xs else id ∷ x ∷ xs)
+    go true = omega arith
+    go false = omega arith
+
+-- beside a number that is the only one there is none
+pub only_id : (others : List StreamId) (id : StreamId) → length (with_id id others) ≡ 1 → others ≡ []
+only_id [] id one = refl
+only_id (x ∷ xs) id one = longer_by x id xs (nat_lt x.0 id.0) (some_with_id xs id) one

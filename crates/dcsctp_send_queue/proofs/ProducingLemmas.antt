@@ -1,11 +1,11 @@
 -- What is left after a fragment was taken, step by step.
-use Rattle.std.proofs.Common.{◌≡◌, ◌==◌, ◌-◌, ℕ, ◌<◌, ◌≤◌, nat_le, Bool, true, false, Option, None, Some, Result, Ok, Err, OnOk, List, length, set, refl, sym, ap, subst, ◌∙◌, arith}
+use Rattle.std.proofs.Common.{◌≡◌, ◌==◌, ◌+◌, ◌-◌, ◌^◌, ℕ, ◌<◌, ◌≤◌, min, nat_le, Bool, true, false, Option, None, Some, Result, Ok, Err, OnOk, List, length, set, refl, sym, ap, subst, ◌∙◌, arith}
 use Rattle.std.proofs.lemmas.Bool.Decides.{nat_tests}
 use Rattle.dcsctp_api.specs.spec.queues.SendQueue.{SendQueueState, IsUnderWay, CanGoOn, HaveBytes}
 use Rattle.dcsctp_api.specs.types.declared.ids.StreamId.{StreamId}
 use Rattle.dcsctp_api.specs.types.declared.sending.UnderWay.{UnderWay}
 use Rattle.dcsctp_api.specs.types.queues.SendStreams.{Waiting, Stream, front_of, without_front, stream_with_progress, stream_at}
-use Rattle.dcsctp_api.specs.spec.queues.Sending.{reduced_queue, next_progress, begun_under_way, queue_numbered, turn_counted, fragment_counted, progress_after, released_queue, stream_held_after, after_part, after_last, queue_after_producing}
+use Rattle.dcsctp_api.specs.spec.queues.Sending.{reduced_queue, next_progress, begun_under_way, queue_numbered, turn_counted, fragment_counted, progress_after, message_reserve, reserve_begun, reserved_after, released_queue, stream_held_after, after_part, after_last, queue_after_producing}
 use Rattle.dcsctp_send_queue.proofs.StreamLemmas.{length-set_at}
 use Rattle.dcsctp_send_queue.proofs.GoingOnLemmas.{kept_at, keeps_counted, can_continue, held_counted, ComesFrom, comes_from}
 
@@ -57,30 +57,35 @@ counted_front old turned place size message u counted lt =
     let at = kept_at place old (fragment_counted place size message u (reduced_queue place size old)) lt keeps in
     ap (λ (q : SendQueueState). front_of (stream_at q.streams place).messages) counted ∙ (ap (λ (s : Stream). front_of s.messages) at ∙ ap (λ m. front_of m) keeps.messages)
 
-pub part_is : (old turned : SendQueueState) (place size : ℕ) (message : Waiting) (u next : UnderWay) (streams : List Stream) (held : Option StreamId)
+pub part_is : (old turned : SendQueueState) (place size : ℕ) (message : Waiting) (u next : UnderWay) (streams : List Stream) (held : Option StreamId) (reserved : ℕ)
     → turned ≡ fragment_counted place size message u (reduced_queue place size old) → place < length old.streams
     → streams ≡ set turned.streams place (stream_with_progress next (stream_at turned.streams place)) → next ≡ progress_after size u → held ≡ stream_held_after u.stream_id message turned
-    → record turned { streams = streams; held = held } ≡ after_part place size message u old
-part_is old turned place size message u next streams held counted lt is come they =
+    → reserved ≡ reserved_after (reserve_begun (length message.payload) u) (message_reserve (length message.payload) next) turned
+    → record turned { streams = streams; held = held; reserved = reserved } ≡ after_part place size message u old
+part_is old turned place size message u next streams held reserved counted lt is come they takes =
     let after = fragment_counted place size message u (reduced_queue place size old) in
-    let held_is = they ∙ (ap {A = SendQueueState} (λ (q : SendQueueState). stream_held_after u.stream_id message q) counted
-    ∙ held_counted place old after u.stream_id message (keeps_counted place size message u old lt)) in
+    let keeps = keeps_counted place size message u old lt in
+    let held_is = they ∙ (ap {A = SendQueueState} (λ (q : SendQueueState). stream_held_after u.stream_id message q) counted ∙ held_counted place old after u.stream_id message keeps) in
     let all = is ∙ ap (λ (n : UnderWay). set turned.streams place (stream_with_progress n (stream_at turned.streams place))) come in
-    ap {A = Option StreamId} (λ (h : Option StreamId). record turned { streams = streams; held = h }) held_is
-    ∙ (ap {A = List Stream} (λ (s : List Stream). record turned { streams = s; held = stream_held_after u.stream_id message old }) all
-    ∙ ap {A = SendQueueState} (λ (q : SendQueueState). record q {
+    let less = reserve_begun (length message.payload) u in
+    let was : turned.reserved ≡ old.reserved = ap {A = SendQueueState} (λ (q : SendQueueState). q.reserved) counted ∙ keeps.reserved in
+    let takes_is : reserved ≡ reserved_after less (message_reserve (length message.payload) (progress_after size u)) old =
+    takes ∙ (ap {A = UnderWay} (λ (n : UnderWay). reserved_after less (message_reserve (length message.payload) n) turned) come
+    ∙ ap (λ (n : ℕ). min (n - less + message_reserve (length message.payload) (progress_after size u)) (2 ^ 128 - 1)) was) in
+    rw (held_is, takes_is, all) (ap {A = SendQueueState} (λ (q : SendQueueState). record q {
       streams = set q.streams place (stream_with_progress (progress_after size u) (stream_at q.streams place));
       held = stream_held_after u.stream_id message old;
+      reserved = reserved_after less (message_reserve (length message.payload) (progress_after size u)) old;
     }) counted)
 
 pub last_is : (old turned released : SendQueueState) (place : ℕ) (message : Waiting) (u : UnderWay) (streams : List Stream)
     → turned ≡ fragment_counted place (length message.payload - u.sent) message u (reduced_queue place (length message.payload - u.sent) old)
-    → released ≡ released_queue u.stream_id.0 turned → streams ≡ set released.streams place (without_front (stream_at released.streams place))
+    → released ≡ released_queue u.stream_id.0 (reserve_begun (length message.payload) u) turned → streams ≡ set released.streams place (without_front (stream_at released.streams place))
     → record released { streams = streams } ≡ after_last place message u old
 last_is old turned released place message u streams counted is they =
     ap {A = List Stream} (λ (s : List Stream). record released { streams = s }) they
     ∙ (ap {A = SendQueueState} (λ (q : SendQueueState). record q { streams = set q.streams place (without_front (stream_at q.streams place)) }) is
-    ∙ ap {A = SendQueueState} (λ (q : SendQueueState). record (released_queue u.stream_id.0 q) { streams = set q.streams place (without_front (stream_at q.streams place)) }) counted)
+    ∙ ap {A = SendQueueState} (λ (q : SendQueueState). record (released_queue u.stream_id.0 (reserve_begun (length message.payload) u) q) { streams = set q.streams place (without_front (stream_at q.streams place)) }) counted)
 
 -- ---- the whole
 

@@ -65,12 +65,12 @@ all_taken (suc k) (x ∷ xs) le = ap (λ ts. x ∷ ts) (all_taken k xs (omega ar
 
 -- all
 pub put_back_all : (queue now : SendQueueState) (k sent total : ℕ) → now ≡ put_back_to k queue → sent ≡ min (size_to k queue.streams) (2 ^ 64 - 1) → total ≡ min (now.total_amount + sent) (2 ^ 64 - 1)
-    → length queue.streams ≤ k → record now { total_amount = total; held = None } ≡ put_back queue
+    → length queue.streams ≤ k → record now { total_amount = total; held = None; reserved = 0 } ≡ put_back queue
 put_back_all queue now k sent total is were sum le =
     let taken = ap under_way_size (all_taken k queue.streams le) in
     let mapped = mapped_to-all k stream_put_back queue.streams le in
     let before = ap (λ (q : SendQueueState). q.total_amount) is in
     let all : total ≡ min (queue.total_amount + under_way_size queue.streams) (2 ^ 64 - 1) = omega (arith, taken, before, were, sum) in
-    ap {A = ℕ} (λ (n : ℕ). record now { total_amount = n; held = None }) all
-    ∙ (ap {A = SendQueueState} (λ (q : SendQueueState). record q { total_amount = min (queue.total_amount + under_way_size queue.streams) (2 ^ 64 - 1); held = None }) is
-    ∙ ap {A = List Stream} (λ (s : List Stream). record queue { streams = s; total_amount = min (queue.total_amount + under_way_size queue.streams) (2 ^ 64 - 1); held = None }) mapped)
+    ap {A = ℕ} (λ (n : ℕ). record now { total_amount = n; held = None; reserved = 0 }) all
+    ∙ (ap {A = SendQueueState} (λ (q : SendQueueState). record q { total_amount = min (queue.total_amount + under_way_size queue.streams) (2 ^ 64 - 1); held = None; reserved = 0 }) is
+    ∙ ap {A = List Stream} (λ (s : List Stream). record queue { streams = s; total_amount = min (queue.total_amount + under_way_size queue.streams) (2 ^ 64 - 1); held = None; reserved = 0 }) mapped)

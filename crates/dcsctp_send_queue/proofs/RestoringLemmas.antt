@@ -8,7 +8,7 @@ use Rattle.dcsctp_api.specs.types.declared.snapshot.HandoverStreamMessage.{Hando
 use Rattle.dcsctp_api.specs.types.Snapshot.{has_bytes, has_unsent_bytes, is_valid_queued}
 use Rattle.dcsctp_api.specs.types.SnapshotItems.{QueuedPart, queued_part}
 use Rattle.dcsctp_api.specs.spec.queues.QueuedParts.{with_rest, is_part_continued, waiting_again, progress_again, held_again, queue_continued}
-use Rattle.dcsctp_api.specs.spec.queues.Sending.{stream_held_after, is_kept_whole}
+use Rattle.dcsctp_api.specs.spec.queues.Sending.{reserve_begun, reserved_after, stream_held_after, is_kept_whole}
 use Rattle.dcsctp_api.specs.spec.queues.SendQueue.{SendQueueState, stream_changed, with_stream, is_used, used_streams, stream_found, queue_stream, IsUnderWay, IsHeld}
 use Rattle.dcsctp_api.specs.types.queues.SendStreams.{Waiting, Stream, unused_stream, front_of, stream_with_progress, stream_at, IsAscending}
 use Rattle.dcsctp_send_queue.specs.Ranking.{IsFound}
@@ -144,12 +144,12 @@ pub held_new : (held : Option StreamId) (id : StreamId) (message : Waiting) (que
     → held ≡ held_again id message queue queue.held
 held_new held id message queue none is = held_none_by queue.held held id message queue none is
 
-pub continued_is : (queue : SendQueueState) (id : StreamId) (p : ℕ) (message : Waiting) (u : UnderWay) (streams : List Stream) (held : Option StreamId) → IsAscending queue.streams
+pub continued_is : (queue : SendQueueState) (id : StreamId) (p : ℕ) (message : Waiting) (u : UnderWay) (streams : List Stream) (held : Option StreamId) (reserved : ℕ) → IsAscending queue.streams
     → IsFound queue.streams id.0 (Ok p) → streams ≡ set queue.streams p (stream_with_progress u (stream_at queue.streams p)) → held ≡ held_again id message queue queue.held
-    → record queue { streams = streams; held = held } ≡ queue_continued id.0 message u queue
-continued_is queue id p message u streams held ascending found is they =
+    → reserved ≡ reserved_after 0 (reserve_begun (length message.payload) u) queue → record queue { streams = streams; held = held; reserved = reserved } ≡ queue_continued id.0 message u queue
+continued_is queue id p message u streams held reserved ascending found is they takes =
     let all = is ∙ changed_at queue.streams p id.0 (stream_with_progress u) ascending found in
-    rw (all, they) refl
+    rw (all, they, takes) refl
 
 continued_by : (b : Bool) (streams : List Stream) (id : StreamId) (p : ℕ) (u : UnderWay) → IsFound streams id.0 (Ok p) → IsHeld (if b then Some id else None) (set streams p (stream_with_progress u (stream_at streams p)))
 continued_by true streams id p u found =

@@ -3,7 +3,7 @@ use Rattle.std.proofs.Common.{◌≡◌, ◌≢◌, ℕ, zero, suc, ◌+◌, ◌
 use Rattle.std.specs.List.{remove}
 use Rattle.dcsctp_api.specs.types.declared.sending.Turn.{Turn}
 use Rattle.dcsctp_api.specs.types.queues.SendStreams.{comes_after, with_turn, with_optional_turn, Stream, stream_counted, stream_at, may_send_on, turn_of, turns_of, IsBelow, IsAscending}
-use Rattle.dcsctp_send_queue.specs.Pausing.{pause_in_order}
+use Rattle.dcsctp_send_queue.specs.Pausing.{standing_of}
 use Rattle.dcsctp_send_queue.specs.Turns.{IsOrdered, HoldsTurns}
 use Rattle.dcsctp_send_queue.specs.Ranking.{IsRanked}
 use Rattle.dcsctp_send_queue.proofs.TurnLemmas.{IsOrdered-with_turn, with_turn-with_turn}
@@ -196,11 +196,11 @@ counted-turn false true s = refl
 counted-turn true false s = refl
 counted-turn true true s = refl
 
-pub counted-pause : (is_interleaved is_unordered : Bool) (s : Stream) → pause_in_order (stream_counted is_interleaved is_unordered s) ≡ pause_in_order s
-counted-pause false false s = refl
-counted-pause false true s = refl
-counted-pause true false s = refl
-counted-pause true true s = refl
+pub counted-standing : (is_interleaved is_unordered : Bool) (s : Stream) → standing_of (stream_counted is_interleaved is_unordered s) ≡ standing_of s
+counted-standing false false s = refl
+counted-standing false true s = refl
+counted-standing true false s = refl
+counted-standing true true s = refl
 
 pub counted-messages : (is_interleaved is_unordered : Bool) (s : Stream) → (stream_counted is_interleaved is_unordered s).messages ≡ s.messages
 counted-messages false false s = refl

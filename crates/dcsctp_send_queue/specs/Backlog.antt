@@ -16,6 +16,8 @@ queue_of backlog =
       takes_turns = backlog.takes_turns;
       turns_taken = backlog.turns_taken;
       turn_size = backlog.turn_size;
+      window = backlog.window;
+      reserved = backlog.reserved;
     }
 
 -- A stream that is held has a message under way.

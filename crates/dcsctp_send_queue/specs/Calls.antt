@@ -23,7 +23,7 @@ pub record PartNext (now max : ℕ) (old queue : SendQueueState) (events : List 
   pub message : Waiting
   pub under_way : UnderWay
   pub front : front_of (stream_at queue.streams place).messages ≡ Some message
-  pub chosen : Chooses now old old.held queue place message
+  pub chosen : Chooses now max old old.held queue place
   pub come : under_way ≡ next_progress message (stream_at queue.streams place)
   pub is : events ≡ produced_events place max message under_way queue
 

@@ -6,6 +6,7 @@ ghost use Rattle.dcsctp_api.specs.spec.queues.SendEvents.{falls_low};
 mod handover;
 mod numbering;
 mod producing;
+mod reserving;
 mod resetting;
 mod restoring;
 
@@ -48,6 +49,12 @@ pub struct Backlog {
 
     /// How many payload bytes a turn has where messages are interleaved.
     pub turn_size: usize,
+
+    /// The peer's receive window as the association began, in bytes.
+    pub window: u32,
+
+    /// What messages under way take of it until they end.
+    pub reserved: u128,
 }
 
 impl Backlog {
@@ -260,6 +267,7 @@ impl Backlog {
         }
         self.total_amount = self.total_amount.saturating_add(sent);
         self.held = None;
+        self.reserved = 0;
     }
 
     /// May a message begin while others are under way?
@@ -276,18 +284,19 @@ impl Backlog {
         ensures { (message : Waiting) → is_abandonable ≡ may_be_abandoned message
             → result ≡ stream_held_after stream_id message (queue_of self.now) }
     {
-        if is_abandonable || !self.interleaves() {
+        if is_abandonable || !self.interleaves() || self.is_crowded() {
             Some(stream_id)
         } else {
             None
         }
     }
 
-    /// The stream is held no longer, if it was.
+    /// The stream is held no longer, if it was, and its message takes nothing of the peer's window any more.
     #[inline(always)]
-    pub fn release(&mut self, stream_id: StreamId)
-        ensures { queue_of self.new ≡ released_queue stream_id.0 (queue_of self.old) }
+    pub fn release(&mut self, stream_id: StreamId, reserve: u128)
+        ensures { queue_of self.new ≡ released_queue stream_id.0 reserve (queue_of self.old) }
     {
+        self.reserved = self.reserved.saturating_sub(reserve);
         match self.held {
             Some(held) if held.0 == stream_id.0 => self.held = None,
             Some(_) | None => {}

@@ -90,6 +90,8 @@ impl SendQueue {
                 takes_turns: options.follow_rfc,
                 turns_taken: 0,
                 turn_size: full_payload(options.mtu),
+                window: 0,
+                reserved: 0,
             },
         }
     }
@@ -194,11 +196,11 @@ impl SendQueue {
 
     /// Says whether messages are numbered as for interleaving (RFC 8260, section 2.1): with it message
     /// identifiers count, without it stream sequence numbers. If that is a change, each message under way goes
-    /// on under the next number of its stream.
-    pub fn enable_message_interleaving(&mut self, enabled: bool)
-        ensures { self.new ≡ numbered_for enabled self.old }
+    /// on under the next number of its stream. `window`: the peer's receive window, in bytes.
+    pub fn enable_message_interleaving(&mut self, enabled: bool, window: u32)
+        ensures { self.new ≡ numbered_for enabled window self.old }
     {
-        self.backlog.interleave(enabled);
+        self.backlog.interleave(enabled, window);
     }
 
     /// Makes the queue ready for another association: messages that are under way start again, all messages

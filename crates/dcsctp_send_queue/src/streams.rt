@@ -3,7 +3,7 @@
 mod resetting;
 
 use crate::message::QueuedMessage;
-use crate::paused::PausedIds;
+use crate::paused::{PausedIds, Standing};
 use crate::stream::OutgoingStream;
 use crate::stream_list::StreamList;
 use crate::turns::move_turn;
@@ -21,9 +21,16 @@ pub struct Streams {
     // In order, the last turn first. There is room for one of each stream.
     turns: VecDeque<Turn>,
 
-    // Those that can be handed out to be reset, and those that were. There is room for all streams.
+    // Those that can be handed out to be reset, those that were, and those with a message under way. There is room
+    // for all streams.
     paused: PausedIds,
 }
+
+// That of a stream which is in none of the lists.
+const NOT_KEPT: Standing = Standing {
+    pause: Pause::Open,
+    is_under_way: false,
+};
 
 impl Model for Streams {
     ghost use Rattle.std.specs.Prelude.{List};
@@ -44,6 +51,7 @@ impl Streams {
     ghost use Rattle.dcsctp_api.specs.types.queues.SendStreams.{front_of, with_message, without_front, stream_counted, stream_with_progress, stream_put_back, progress_size, served_stream, fills_turn, stream_with_turn_bytes, stream_at, turn_of, turns_of, IsNext, IsAscending};
     ghost use Rattle.dcsctp_api.specs.spec.queues.SendQueue.{HaveBytes, CanGoOn, IsUnderWay, has_live};
     ghost use Rattle.dcsctp_api.specs.spec.queues.OwnResets.{is_lasting};
+    ghost use Rattle.dcsctp_api.specs.spec.queues.Sending.{IsFirstUnderWay, AreNoneUnderWay};
     ghost use Rattle.dcsctp_api.specs.spec.queues.Readiness.{has_messages, is_paused};
     ghost use Rattle.dcsctp_send_queue.specs.Ranking.{IsFound};
     ghost use Rattle.dcsctp_api.specs.spec.queues.QueuedParts.{stream_restored, with_rest};
@@ -109,11 +117,11 @@ impl Streams {
         self.turns.reserve(room.saturating_sub(self.turns.len()))?;
         self.paused.reserve(room)?;
         let id = stream.id();
-        let pause = stream.pause_in_order();
+        let stands = stream.standing();
         let turn = stream.turn();
         self.items.insert(place, stream)?;
         move_turn(&mut self.turns, None, turn);
-        self.paused.move_stream(id, Pause::Open, pause);
+        self.paused.move_stream(id, NOT_KEPT, stands);
         Ok(())
     }
 
@@ -124,6 +132,18 @@ impl Streams {
     {
         let turn = *self.turns.back()?;
         match self.find(turn.stream_id) {
+            Ok(place) => Some(place),
+            Err(_) => None,
+        }
+    }
+
+    /// The place of the first stream that has a message under way; none if none has.
+    pub fn first_under_way(&self) -> Option<usize>
+        ensures some { IfSome result (IsFirstUnderWay self.now) }
+        ensures none { IfNone result (AreNoneUnderWay self.now) }
+    {
+        let id = *self.paused.under_way.front()?;
+        match self.find(id) {
             Ok(place) => Some(place),
             Err(_) => None,
         }
@@ -229,12 +249,12 @@ impl Streams {
         let stream = self.items.at_mut(place);
         let id = stream.id();
         let before = stream.turn();
-        let pause_before = stream.pause_in_order();
+        let stood = stream.standing();
         let message = stream.pop();
         let after = stream.turn();
-        let pause_after = stream.pause_in_order();
+        let stands = stream.standing();
         move_turn(&mut self.turns, before, after);
-        self.paused.move_stream(id, pause_before, pause_after);
+        self.paused.move_stream(id, stood, stands);
         message
     }
 
@@ -299,12 +319,12 @@ impl Streams {
         let stream = self.items.at_mut(place);
         let id = stream.id();
         let before = stream.turn();
-        let pause_before = stream.pause_in_order();
+        let stood = stream.standing();
         stream.go_on(under_way);
         let after = stream.turn();
-        let pause_after = stream.pause_in_order();
+        let stands = stream.standing();
         move_turn(&mut self.turns, before, after);
-        self.paused.move_stream(id, pause_before, pause_after);
+        self.paused.move_stream(id, stood, stands);
     }
 
     /// Puts the stream's message under way back, to begin again. How many of its bytes were sent.
@@ -317,12 +337,12 @@ impl Streams {
         let stream = self.items.at_mut(place);
         let id = stream.id();
         let before = stream.turn();
-        let pause_before = stream.pause_in_order();
+        let stood = stream.standing();
         let sent = stream.put_back();
         let after = stream.turn();
-        let pause_after = stream.pause_in_order();
+        let stands = stream.standing();
         move_turn(&mut self.turns, before, after);
-        self.paused.move_stream(id, pause_before, pause_after);
+        self.paused.move_stream(id, stood, stands);
         sent
     }
 

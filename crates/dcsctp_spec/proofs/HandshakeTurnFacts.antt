@@ -89,6 +89,8 @@ queue =
       takes_turns = false;
       turns_taken = 0;
       turn_size = 1156;
+      window = 0;
+      reserved = 0;
     }
 
 -- and it continues under the next number, as messages are interleaved
@@ -97,12 +99,13 @@ queue_renumbered =
     record queue {
       streams = waits_on 8 1 3 (under_way_as 8) ∷ nothing_on Pausing ∷ [];
       is_interleaved = true;
+      window = 1500;
     }
 
 -- and with the message before its first byte again
 abbrev pub queue_at_start : SendQueueState
 queue_at_start =
-    record queue { streams = waits_on 0 0 5 None ∷ nothing_on Open ∷ []; held = None; total_amount = 5; is_interleaved = true }
+    record queue { streams = waits_on 0 0 5 None ∷ nothing_on Open ∷ []; held = None; total_amount = 5; is_interleaved = true; window = 1500 }
 
 -- 5 seconds after it was made
 abbrev pub socket : Endpoint → ℕ → ℤ → Core → ℕ → Endpoint

@@ -43,7 +43,7 @@ stream id pause bytes messages =
 
 queue : ℕ → Option StreamId → List Stream → SendQueueState
 queue bytes held streams =
-    record { streams = streams; held = held; total_amount = bytes; total_threshold = 5; default_priority = 256; default_threshold = 0; is_interleaved = false; next_message_id = 9; takes_turns = false; turns_taken = 0; turn_size = 1156 }
+    record { streams = streams; held = held; total_amount = bytes; total_threshold = 5; default_priority = 256; default_threshold = 0; is_interleaved = false; next_message_id = 9; takes_turns = false; turns_taken = 0; turn_size = 1156; window = 0; reserved = 0 }
 
 -- a byte of a message was sent on this stream
 going : Stream → Stream

@@ -43,11 +43,14 @@ queue =
       takes_turns = false;
       turns_taken = 0;
       turn_size = 1156;
+      window = 2000;
+      -- the three bytes in two parts that were sent, twice the last byte, and twice 256
+      reserved = 1029;
     }
 
 -- the queue of another socket
 abbrev other : SendQueueState
-other = record queue { streams = []; held = None; total_amount = 0; next_message_id = 0 }
+other = record queue { streams = []; held = None; total_amount = 0; next_message_id = 0; reserved = 0 }
 
 -- It comes back whole, at the moment at which it was given.
 comes_back : queue_restored 0 (part_with_queue 0 true queue empty_send_part) other ≡ queue
@@ -55,7 +58,7 @@ comes_back = refl
 
 -- Without messages the numbers come back.
 numbers_come_back : queue_restored 0 (part_with_queue 0 false queue empty_send_part) other
-    ≡ record queue { streams = record stream { amount = 0; under_way = None; messages = [] } ∷ []; held = None; total_amount = 0 }
+    ≡ record queue { streams = record stream { amount = 0; under_way = None; messages = [] } ∷ []; held = None; total_amount = 0; reserved = 0 }
 numbers_come_back = refl
 
 -- ---- messages of two streams are under way
@@ -77,10 +80,10 @@ going id =
     }
 
 abbrev both_going : SendQueueState
-both_going = record queue { streams = going 1 ∷ going 4 ∷ []; held = None; total_amount = 6; is_interleaved = true; takes_turns = true }
+both_going = record queue { streams = going 1 ∷ going 4 ∷ []; held = None; total_amount = 6; is_interleaved = true; takes_turns = true; reserved = 1550 }
 
 abbrev taker : SendQueueState
-taker = record both_going { streams = []; total_amount = 0; next_message_id = 0 }
+taker = record both_going { streams = []; total_amount = 0; next_message_id = 0; reserved = 0 }
 
 -- Both go on where they were.
 both_come_back : queue_restored 0 (part_with_queue 0 true both_going empty_send_part) taker ≡ both_going

@@ -8,7 +8,7 @@ use Rattle.dcsctp_types.specs.declared.sending.UnderWay.{UnderWay}
 use Rattle.dcsctp_types.specs.Ids.{lifecycle_number}
 use Rattle.dcsctp_types.specs.queues.SendStreams.{Waiting, Stream}
 use Rattle.dcsctp_spec.specs.queues.SendQueue.{SendQueueState, has_queued_data, numbered_for, queue_restarted}
-use Rattle.dcsctp_spec.specs.queues.Sending.{fragment, after_part, after_last, turn_counted, stream_held_after}
+use Rattle.dcsctp_spec.specs.queues.Sending.{fragment, after_part, after_last, turn_counted, stream_held_after, may_send_part}
 use Rattle.dcsctp_spec.specs.queues.OwnResets.{queue_handing_out, queue_committed, queue_rolled_back}
 use Rattle.dcsctp_spec.specs.endpoint.MessageOutcomes.{Sending, sending_queued}
 
@@ -61,7 +61,7 @@ going under_way stream = record stream { under_way = Some under_way }
 
 queue : ℕ → ℕ → Option StreamId → List Stream → SendQueueState
 queue total next held streams =
-    record { streams = streams; held = held; total_amount = total; total_threshold = 0; default_priority = 256; default_threshold = 0; is_interleaved = false; next_message_id = next; takes_turns = false; turns_taken = 0; turn_size = 4 }
+    record { streams = streams; held = held; total_amount = total; total_threshold = 0; default_priority = 256; default_threshold = 0; is_interleaved = false; next_message_id = next; takes_turns = false; turns_taken = 0; turn_size = 4; window = 0; reserved = 0 }
 
 -- stream 1, as one that is held
 abbrev one : Option StreamId
@@ -100,14 +100,16 @@ begun_now = record { stream_id = record { 0 = 1 }; ssn = 7; mid = 8; next_fsn = 
 one_sent : UnderWay
 one_sent = record begun_now { next_fsn = 1; sent = 1 }
 
--- Its first byte leaves, and its SSN is used up.
+-- Its first byte leaves, and its SSN is used up. Until it ends it takes that byte, 256 for its part, twice the other byte, and twice
+-- 256.
 first_leaves : after_part 0 1 (plain_waits 4) begun_now (queue 2 5 None (stream 1 Open 2 (plain_waits 4 ∷ []) ∷ []))
-    ≡ queue 1 5 one (going one_sent (record (stream 1 Open 1 (plain_waits 4 ∷ [])) { next_ssn = 8 }) ∷ [])
+    ≡ record (queue 1 5 one (going one_sent (record (stream 1 Open 1 (plain_waits 4 ∷ [])) { next_ssn = 8 }) ∷ [])) { reserved = 771 }
 unfolding queue stream going plain_waits begun_now one_sent
 first_leaves = refl
 
 -- Then the other does, and nothing waits.
-last_leaves : after_last 0 (plain_waits 4) one_sent (queue 1 5 one (going one_sent (record (stream 1 Open 1 (plain_waits 4 ∷ [])) { next_ssn = 8 }) ∷ []))
+last_leaves : after_last 0 (plain_waits 4) one_sent
+    (record (queue 1 5 one (going one_sent (record (stream 1 Open 1 (plain_waits 4 ∷ [])) { next_ssn = 8 }) ∷ [])) { reserved = 771 })
     ≡ queue 0 5 None (record (stream 1 Open 0 []) { next_ssn = 8 } ∷ [])
 unfolding queue stream going plain_waits begun_now one_sent
 last_leaves = refl
@@ -134,8 +136,8 @@ last_says = refl
 -- ---- numbers
 
 -- The message under way takes the next MID as messages are interleaved.
-renumbered_now : numbered_for true (queue 1 5 one (going one_sent (stream 1 Open 1 (plain_waits 4 ∷ [])) ∷ []))
-    ≡ record (queue 1 5 one (going one_sent (record (stream 1 Open 1 (plain_waits 4 ∷ [])) { next_mid = 9 }) ∷ [])) { is_interleaved = true }
+renumbered_now : numbered_for true 1500 (queue 1 5 one (going one_sent (stream 1 Open 1 (plain_waits 4 ∷ [])) ∷ []))
+    ≡ record (queue 1 5 one (going one_sent (record (stream 1 Open 1 (plain_waits 4 ∷ [])) { next_mid = 9 }) ∷ [])) { is_interleaved = true; window = 1500 }
 unfolding queue stream going plain_waits begun_now one_sent
 renumbered_now = refl
 
@@ -163,17 +165,17 @@ handed_back = refl
 -- ---- messages that interleave: a turn has 4 bytes here
 
 abbrev interleaving : List Stream → SendQueueState
-interleaving streams = record (queue 8 5 None streams) { is_interleaved = true; takes_turns = true }
+interleaving streams = record (queue 8 5 None streams) { is_interleaved = true; takes_turns = true; window = 2000 }
 
 -- A byte of a turn leaves no stream held, and the turn isn't over.
 none_is_held : after_part 0 1 (plain_waits 4) begun_now (interleaving (stream 1 Open 8 (plain_waits 4 ∷ []) ∷ []))
-    ≡ record (interleaving (going one_sent (record (stream 1 Open 7 (plain_waits 4 ∷ [])) { next_mid = 9; turn_bytes = 1 }) ∷ [])) { total_amount = 7 }
+    ≡ record (interleaving (going one_sent (record (stream 1 Open 7 (plain_waits 4 ∷ [])) { next_mid = 9; turn_bytes = 1 }) ∷ [])) { total_amount = 7; reserved = 771 }
 unfolding queue stream going plain_waits begun_now one_sent
 none_is_held = refl
 
 -- With the fourth it is over.
 turn_is_over : after_part 0 1 (plain_waits 4) begun_now (interleaving (record (stream 1 Open 8 (plain_waits 4 ∷ [])) { turn_bytes = 3 } ∷ []))
-    ≡ record (interleaving (going one_sent (record (stream 1 Open 7 (plain_waits 4 ∷ [])) { next_mid = 9; last_turn = 1 }) ∷ [])) { total_amount = 7; turns_taken = 1 }
+    ≡ record (interleaving (going one_sent (record (stream 1 Open 7 (plain_waits 4 ∷ [])) { next_mid = 9; last_turn = 1 }) ∷ [])) { total_amount = 7; turns_taken = 1; reserved = 771 }
 unfolding queue stream going plain_waits begun_now one_sent
 turn_is_over = refl
 
@@ -187,3 +189,28 @@ beyond_its_turn = refl
 abandonable_is_held : (queue : SendQueueState) (id : StreamId) → stream_held_after id (record (plain_waits 4) { max_retransmissions = Some 0 }) queue ≡ Some id
 unfolding plain_waits
 abandonable_is_held queue id = refl
+
+-- ---- the peer's window, where messages interleave: of 2,000 bytes 1,750 are shared
+
+-- A message of two bytes takes 516 at most, so it begins beside others that take 1,234, and not beside others that take a byte more.
+there_is_room : may_send_part 1 (plain_waits 4) (stream 1 Open 2 []) (record (interleaving []) { reserved = 1234 }) ≡ true
+unfolding queue stream plain_waits
+there_is_room = refl
+
+there_is_no_room : may_send_part 1 (plain_waits 4) (stream 1 Open 2 []) (record (interleaving []) { reserved = 1235 }) ≡ false
+unfolding queue stream plain_waits
+there_is_no_room = refl
+
+-- It may be sent whole.
+whole_takes_no_room : may_send_part 2 (plain_waits 4) (stream 1 Open 2 []) (record (interleaving []) { reserved = 1235 }) ≡ true
+unfolding queue stream plain_waits
+whole_takes_no_room = refl
+
+-- Once more is taken than is shared, the stream that sends is held.
+crowded_stream_is_held : stream_held_after (record { 0 = 1 }) (plain_waits 4) (record (interleaving []) { reserved = 1751 }) ≡ one
+unfolding queue plain_waits
+crowded_stream_is_held = refl
+
+sharing_stream_is_not_held : stream_held_after (record { 0 = 1 }) (plain_waits 4) (record (interleaving []) { reserved = 1750 }) ≡ None
+unfolding queue plain_waits
+sharing_stream_is_not_held = refl

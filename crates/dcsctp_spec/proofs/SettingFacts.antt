@@ -14,7 +14,7 @@ stream id threshold priority =
 -- a queue of these streams, with the defaults of the options
 queue : List Stream → SendQueueState
 queue streams =
-    record { streams = streams; held = None; total_amount = 0; total_threshold = 0; default_priority = 256; default_threshold = 0; is_interleaved = false; next_message_id = 0; takes_turns = false; turns_taken = 0; turn_size = 1156 }
+    record { streams = streams; held = None; total_amount = 0; total_threshold = 0; default_priority = 256; default_threshold = 0; is_interleaved = false; next_message_id = 0; takes_turns = false; turns_taken = 0; turn_size = 1156; window = 0; reserved = 0 }
 
 -- A stream that was never used has the defaults but for what is set, and comes between its neighbours.
 first_is_set : set_in_queue (stream_priority 1 5) (queue []) ≡ queue (stream 1 0 5 ∷ [])

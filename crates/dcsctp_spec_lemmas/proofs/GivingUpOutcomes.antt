@@ -16,7 +16,7 @@ use Rattle.dcsctp_spec.specs.queues.Outstanding.{OutstandingState}
 use Rattle.dcsctp_spec.specs.types.queues.Progress.{is_marked, just_sent}
 use Rattle.dcsctp_spec.specs.queues.Retransmission.{with_items}
 use Rattle.dcsctp_spec.specs.queues.SendQueue.{SendQueueState}
-use Rattle.dcsctp_spec.specs.queues.Sending.{without_rest, released_queue, drop_events, DiscardsNamed, IsMessageUnderWay}
+use Rattle.dcsctp_spec.specs.queues.Sending.{without_rest, reserve_begun, released_queue, drop_events, DiscardsNamed, IsMessageUnderWay}
 use Rattle.dcsctp_spec_lemmas.proofs.DueItemLemmas.{due_marked, due_or_not}
 use Rattle.dcsctp_spec_lemmas.proofs.ItemMessageLemmas.{some_row, named_decided}
 use Rattle.dcsctp_spec_lemmas.proofs.MarkedItemLemmas.{le_or_lt, marked_at_most, fewer_marked, FewerBy, completed}
@@ -133,7 +133,7 @@ with_end now last old = record old.queue.outstanding { items = old.queue.outstan
 abbrev pub dropped_at : (now : ℕ) → (last : Item) → (old : Stage) → IsMessageUnderWay old.waiting last.fragment.stream last.fragment.message_id → Stage
 dropped_at now last old named = record old {
   queue = record old.queue { outstanding = with_end now last old };
-  waiting = released_queue last.fragment.stream (without_rest named.place named.under_way.sent named.message old.waiting);
+  waiting = released_queue last.fragment.stream (reserve_begun (length named.message.payload) named.under_way) (without_rest named.place named.under_way.sent named.message old.waiting);
   told = old.told ++ drop_events named.place named.under_way.sent named.message old.waiting;
 }
 

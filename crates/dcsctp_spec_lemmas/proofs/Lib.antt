@@ -3,6 +3,7 @@ pub use Rattle.dcsctp_spec.proofs.types_lemmas as types_lemmas
 pub mod AbortLemmas
 pub mod AnswerLemmas
 pub mod AnswerParts
+pub mod ChoosingLemmas
 pub mod ChunkOutcomes
 pub mod CleanedBlockLemmas
 pub mod ControlEcho

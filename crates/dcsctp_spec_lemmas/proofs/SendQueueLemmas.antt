@@ -3,7 +3,7 @@ use Rattle.std.proofs.Common.{◌≡◌, ◌∙◌, ℕ, ◌+◌, ◌-◌, ◌^�
 use Rattle.std.proofs.lemmas.List.Sums.{sum_by-cons}
 use Rattle.dcsctp_spec.specs.types.declared.sending.UnderWay.{UnderWay}
 use Rattle.dcsctp_spec.specs.types.queues.SendStreams.{Stream, renumbered_stream, amount_raised, stream_counted, progress_size, stream_put_back}
-use Rattle.dcsctp_spec.specs.queues.SendQueue.{SendQueueState, is_front_unordered, message_renumbered, renumbered_under_way, is_other, numbered_for, under_way_size, put_back, queue_restarted}
+use Rattle.dcsctp_spec.specs.queues.SendQueue.{SendQueueState, is_front_unordered, message_renumbered, renumbered_under_way, is_other, numbered_for, under_way_size, queue_restarted}
 
 -- A stream's numbers don't matter once it begins again, nor how far its message has come.
 counted_anew : (sent : ℕ) (i b : Bool) (w : Option UnderWay) (s : Stream)
@@ -51,17 +51,17 @@ none_renumbered : (b : Bool) (streams : List Stream) → map (renumbered_under_w
 none_renumbered b [] = refl
 none_renumbered b (x ∷ xs) = ap (λ (ts : List Stream). renumbered_stream (stream_put_back x) ∷ ts) (none_renumbered b xs)
 
-by_kind : (c b : Bool) (queue : SendQueueState)
-    → queue_restarted (record queue { is_interleaved = b; streams = if c then map (renumbered_under_way b) queue.streams else queue.streams })
-    ≡ record (queue_restarted queue) { is_interleaved = b; streams = if c then map (renumbered_under_way b) (queue_restarted queue).streams else (queue_restarted queue).streams }
-by_kind false b queue = refl
-by_kind true b queue =
+by_kind : (c b : Bool) (window : ℕ) (queue : SendQueueState)
+    → queue_restarted (record queue { is_interleaved = b; window = window; streams = if c then map (renumbered_under_way b) queue.streams else queue.streams })
+    ≡ record (queue_restarted queue) { is_interleaved = b; window = window; streams = if c then map (renumbered_under_way b) (queue_restarted queue).streams else (queue_restarted queue).streams }
+by_kind false b window queue = refl
+by_kind true b window queue =
     ap {A = List Stream} (λ (streams : List Stream). with_streams streams (under_way_size (map (renumbered_under_way b) queue.streams))) (streams_anew b queue.streams)
     ∙ (ap {A = ℕ} (λ (size : ℕ). with_streams (map renumbered_stream (map stream_put_back queue.streams)) size) (sizes_anew b queue.streams)
     ∙ ap {A = List Stream} (λ (streams : List Stream). with_streams streams (under_way_size queue.streams)) (sym (none_renumbered b queue.streams)))
   where
     with_streams : List Stream → ℕ → SendQueueState
-    with_streams streams size = record queue { is_interleaved = b; streams = streams; total_amount = min (queue.total_amount + size) (2 ^ 64 - 1); held = None }
+    with_streams streams size = record queue { is_interleaved = b; window = window; streams = streams; total_amount = min (queue.total_amount + size) (2 ^ 64 - 1); held = None; reserved = 0 }
 
-pub anew_either : (b : Bool) (queue : SendQueueState) → queue_restarted (numbered_for b queue) ≡ numbered_for b (queue_restarted queue)
-anew_either b queue = by_kind (is_other queue.is_interleaved b) b queue
+pub anew_either : (b : Bool) (window : ℕ) (queue : SendQueueState) → queue_restarted (numbered_for b window queue) ≡ numbered_for b window (queue_restarted queue)
+anew_either b window queue = by_kind (is_other queue.is_interleaved b) b window queue

@@ -1,5 +1,5 @@
 -- The send queue gives something, gives nothing, or is stuck.
-use Rattle.std.proofs.Common.{◌≡◌, ◌∙◌, ◌⊎◌, inl, inr, ◌==◌, ℕ, zero, suc, ◌+◌, ◌<◌, ◌≤◌, false, Option, None, Some, List, [], ◌∷◌, ◌++◌, length, drop, append_assoc, append-nil, refl, sym, ap, arith}
+use Rattle.std.proofs.Common.{◌≡◌, ◌∙◌, ◌⊎◌, inl, inr, ◌==◌, ℕ, zero, suc, ◌+◌, ◌<◌, ◌≤◌, Option, None, Some, List, [], ◌∷◌, ◌++◌, length, drop, append_assoc, append-nil, refl, sym, ap, arith}
 use Rattle.std.proofs.lemmas.Bool.Decides.{nat_tests}
 use Rattle.std.proofs.lemmas.List.{length-take}
 use Rattle.dcsctp_spec.specs.endpoint.Event.{Event}
@@ -9,6 +9,7 @@ use Rattle.dcsctp_spec.specs.queues.NextItem.{HasNone, HasHeldMessage, IsStuck}
 use Rattle.dcsctp_spec.specs.queues.SendQueue.{SendQueueState}
 use Rattle.dcsctp_spec.specs.types.queues.SendStreams.{Waiting, Stream, front_of, stream_at, turns_of, IsNext}
 use Rattle.dcsctp_spec.specs.queues.Sending.{Fragment, Chooses, next_progress, is_too_old, fragment, size_produced, queue_after_producing, produced_events, drop_events, without_rest, Drops, none as none_dropped, more as one_more_dropped, TakesFragment, TakesNone}
+use Rattle.dcsctp_spec_lemmas.proofs.ChoosingLemmas.{Chosen, one_chosen}
 use Rattle.dcsctp_spec_lemmas.proofs.TurnOutcomes.{by_test, next_turn, next_front, count_messages, count_dropped}
 
 abbrev Told : Type 0
@@ -70,9 +71,10 @@ size_taken max message u = let size = length-take (size_produced max message u) 
 
 -- ---- no stream is held
 
-begins : (now max : ℕ) (old mid : SendQueueState) (told events : Told) (place : ℕ) (message : Waiting) → old.held ≡ None → Drops now old events mid → IsNext mid.streams place
-    → front_of (stream_at mid.streams place).messages ≡ Some message → is_too_old now message (stream_at mid.streams place) ≡ false → TakesSome now max old told events
-begins now max old mid told events place message idle drops next front fresh =
+begins : (now max : ℕ) (old mid : SendQueueState) (told events : Told) → old.held ≡ None → Drops now old events mid → Chosen now max mid → TakesSome now max old told events
+begins now max old mid told events idle drops chosen =
+    let place : ℕ = chosen.place in
+    let message : Waiting = chosen.message in
     let u : UnderWay = next_progress message (stream_at mid.streams place) in
     record {
       part = fragment u message (size_produced max message u);
@@ -85,8 +87,8 @@ begins now max old mid told events place message idle drops next front fresh =
         place = place;
         message = message;
         under_way = u;
-        front = front;
-        chosen = rw idle (next, fresh);
+        front = chosen.front;
+        chosen = rw idle chosen.is;
         come = refl;
         is = refl;
         left = refl;
@@ -121,7 +123,7 @@ takes_or_drops now max old mid told events idle drops further = go (next_turn mi
         (λ over.
         told_sooner now max old told events (drop_events place 0 message mid)
         (further (without_rest place 0 message mid) (drop_events place 0 message mid) (count_dropped mid place 0 message next.within front) (one_more_dropped events mid place message drops next front over)))
-        (λ fresh. inl (begins now max old mid told events place message idle drops next front fresh))
+        (λ fresh. inl (begins now max old mid told events idle drops (one_chosen now max mid place message next front fresh)))
 
 taken_within : (now max : ℕ) (old mid : SendQueueState) (told events : Told) (count : ℕ) → count_messages mid.streams ≤ count → old.held ≡ None → Drops now old events mid
     → Taking now max old told events
@@ -195,7 +197,7 @@ goes_further now max old told held is g =
       grows = refl;
     }
   where
-    chosen_if : (it : Option StreamId) → it ≡ Some held → Chooses now old (Some held) old g.place g.message → Chooses now old it old g.place g.message
+    chosen_if : (it : Option StreamId) → it ≡ Some held → Chooses now max old (Some held) old g.place → Chooses now max old it old g.place
     chosen_if it e chosen = rw e chosen
 
 -- It gives something or nothing, unless the stream that is held has no message.

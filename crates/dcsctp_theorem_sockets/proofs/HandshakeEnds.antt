@@ -15,7 +15,7 @@ use Rattle.dcsctp_spec_lemmas.specs.spec.endpoint.Endpoint.{Endpoint, Core, clos
 use Rattle.dcsctp_spec_lemmas.specs.spec.endpoint.Outcome.{Outcome, with_effects_first, quiet, sends, packet_counted}
 use Rattle.dcsctp_spec_lemmas.specs.spec.endpoint.Turn.{act_input}
 use Rattle.dcsctp_spec_lemmas.specs.spec.endpoint.HandshakeOutcomes.{pair_from, echo_emission, connected_after}
-use Rattle.dcsctp_spec_lemmas.specs.spec.endpoint.CookieEchoOutcomes.{endpoint_established, interleaves, queue_if_kept, queues_with, queues_kept, EstablishAnswers, ResolvedAnswers, EchoedAnswers, resolve_with_flush, cookie_echo_with_flush, establish_outcome}
+use Rattle.dcsctp_spec_lemmas.specs.spec.endpoint.CookieEchoOutcomes.{endpoint_established, interleaves, queue_if_kept, queues_with, queues_kept, EstablishAnswers, ResolvedAnswers, EchoedAnswers, resolve_with_flush, cookie_echo_with_flush, establish_outcome, window_by_cookie}
 use Rattle.dcsctp_spec_lemmas.specs.spec.endpoint.FlushOutcomes.{FlushKind, flush_answered, IsIdle}
 use Rattle.dcsctp_spec_lemmas.specs.spec.queues.SendQueue.{SendQueueState, queue_restarted}
 use Rattle.dcsctp_spec_lemmas.specs.spec.queues.Transfer.{EndpointQueues}
@@ -57,7 +57,8 @@ established_effects a b p q =
 -- the send queue, in which nothing waits, and nothing is in flight
 abbrev queues_there : Options → Options → Pair → Pair → EndpointQueues
 queues_there a b p q =
-    queues_with (echoed b q) (made_cookie a b p q) (record (echoed b q).queues.queue { is_interleaved = interleaves (echoed b q) (made_cookie a b p q) })
+    queues_with (echoed b q) (made_cookie a b p q)
+    (record (echoed b q).queues.queue { is_interleaved = interleaves (echoed b q) (made_cookie a b p q); window = window_by_cookie b (made_cookie a b p q) })
 
 abbrev pub establishing : Options → Options → Pair → Pair → ℕ → Outcome
 establishing a b p q tie =
@@ -91,10 +92,10 @@ cookie_reads law a b p q good mine own =
 queue_there_where : (follows : Bool) (a b : Options) (p q : Pair) → queues_with (echoed b q) (made_cookie a b p q) (queue_if_kept follows (echoed b q) (made_cookie a b p q)) ≡ queues_there a b p q
 queue_there_where true a b p q =
     ap (λ (queue : SendQueueState). queues_with (echoed b q) (made_cookie a b p q) queue)
-    (numbered_without_streams (interleaves (echoed b q) (made_cookie a b p q)) (queue_restarted (echoed b q).queues.queue) refl)
+    (numbered_without_streams (interleaves (echoed b q) (made_cookie a b p q)) (window_by_cookie b (made_cookie a b p q)) (queue_restarted (echoed b q).queues.queue) refl)
 queue_there_where false a b p q =
     ap (λ (queue : SendQueueState). queues_with (echoed b q) (made_cookie a b p q) queue)
-    (numbered_without_streams (interleaves (echoed b q) (made_cookie a b p q)) (echoed b q).queues.queue refl)
+    (numbered_without_streams (interleaves (echoed b q) (made_cookie a b p q)) (window_by_cookie b (made_cookie a b p q)) (echoed b q).queues.queue refl)
 
 queue_is : (a b : Options) (p q : Pair) → queues_kept (echoed b q) (made_cookie a b p q) ≡ queues_there a b p q
 queue_is a b p q = queue_there_where b.follow_rfc a b p q
@@ -182,7 +183,7 @@ ack_is_taken a b p q good mine port =
 -- nothing waits then
 pub connected_idle : (a b : Options) (p q : Pair) (tie : ℕ) → IsIdle (connected_after (counted_at (awaited a b p q tie)) p (held_here a b p q))
 connected_idle a b p q tie =
-    idle_once_numbered (awaiting a b p q tie).queues.queue.is_interleaved (queue_restarted (waiting a p).queues.queue) (awaiting a b p q tie).queues.transfer refl refl
+    idle_once_numbered (awaiting a b p q tie).queues.queue.is_interleaved (awaiting a b p q tie).queues.queue.window (queue_restarted (waiting a p).queues.queue) (awaiting a b p q tie).queues.transfer refl refl
 
 pub connects_last : HandshakeLaws → (a b : Options) (p q : Pair) (tie : ℕ) (turns : List Transition) → Good b → FitsPair p → b.remote_port ≡ a.local_port
     → HandleInput (awaited a b p q tie) (emission_bytes (ports_of b) (acknowledgement a b p q)) turns

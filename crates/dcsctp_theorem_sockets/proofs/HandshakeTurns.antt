@@ -235,7 +235,7 @@ echo_sends a b p q tie good =
 -- nothing waits then
 pub awaiting_idle : (a b : Options) (p q : Pair) (tie : ℕ) → IsIdle (awaiting a b p q tie)
 awaiting_idle a b p q tie =
-    idle_once_numbered (awaiting a b p q tie).queues.queue.is_interleaved (queue_restarted (waiting a p).queues.queue) (awaiting a b p q tie).queues.transfer refl refl
+    idle_once_numbered (awaiting a b p q tie).queues.queue.is_interleaved (awaiting a b p q tie).queues.queue.window (queue_restarted (waiting a p).queues.queue) (awaiting a b p q tie).queues.transfer refl refl
 
 echoes_by : (a b : Options) (p q : Pair) (turns : List Transition) → Good a
     → Taken (waiting a p) p.tag (init_ack (answer_to a b p q) (Some (cookie_bytes (made_cookie a b p q)))) turns → Echoes a b p q turns

@@ -1,5 +1,5 @@
 -- A send queue without streams, once messages are interleaved or not.
-use Rattle.std.proofs.Common.{◌≡◌, Bool, true, false, if◌then◌else◌, Option, List, [], map, refl, sym, ap, subst}
+use Rattle.std.proofs.Common.{◌≡◌, Bool, true, false, if◌then◌else◌, Option, List, [], map, refl, sym, ap, subst, ℕ}
 use Rattle.dcsctp_spec_lemmas.specs.types.queues.SendStreams.{Stream}
 use Rattle.dcsctp_spec_lemmas.specs.spec.queues.SendQueue.{SendQueueState, renumbered_under_way, is_other, numbered_for}
 use Rattle.dcsctp_spec_lemmas.specs.spec.queues.Transfer.{Transfer}
@@ -10,12 +10,12 @@ none_renumbered true f streams none = rw none refl
 none_renumbered false f streams none = refl
 
 -- Nothing is numbered anew.
-pub numbered_without_streams : (enabled : Bool) (queue : SendQueueState) → queue.streams ≡ [] → numbered_for enabled queue ≡ record queue { is_interleaved = enabled }
-numbered_without_streams enabled queue none =
-    ap {A = List Stream} (λ (streams : List Stream). record queue { is_interleaved = enabled; streams = streams })
+pub numbered_without_streams : (enabled : Bool) (window : ℕ) (queue : SendQueueState) → queue.streams ≡ [] → numbered_for enabled window queue ≡ record queue { is_interleaved = enabled; window = window }
+numbered_without_streams enabled window queue none =
+    ap {A = List Stream} (λ (streams : List Stream). record queue { is_interleaved = enabled; window = window; streams = streams })
     (none_renumbered (is_other queue.is_interleaved enabled) (renumbered_under_way enabled) queue.streams none)
 
 -- It is idle if it was.
-pub idle_once_numbered : (enabled : Bool) (queue : SendQueueState) (transfer : Option Transfer) → queue.streams ≡ [] → AreQueuesIdle (record queue { is_interleaved = enabled }) transfer
-    → AreQueuesIdle (numbered_for enabled queue) transfer
-idle_once_numbered enabled queue transfer none idle = subst (λ (q : SendQueueState). AreQueuesIdle q transfer) (sym (numbered_without_streams enabled queue none)) idle
+pub idle_once_numbered : (enabled : Bool) (window : ℕ) (queue : SendQueueState) (transfer : Option Transfer) → queue.streams ≡ []
+    → AreQueuesIdle (record queue { is_interleaved = enabled; window = window }) transfer → AreQueuesIdle (numbered_for enabled window queue) transfer
+idle_once_numbered enabled window queue transfer none idle = subst (λ (q : SendQueueState). AreQueuesIdle q transfer) (sym (numbered_without_streams enabled window queue none)) idle

@@ -73,7 +73,7 @@ flushed_by e o (Some held) answers allowed is are =
 restored_at : (e : Endpoint) (core : Core) (state : Snapshot) (o : Outcome) → core ≡ closed → RestoreTurn e core state o → AreOpen o.after.queues.queue.streams
 restored_at e closed state o is turn =
     subst (λ (x : Outcome). AreOpen x.after.queues.queue.streams) (sym turn.2)
-    (restored_open e.moment state.tx (numbered_for state.capabilities.message_interleaving e.queues.queue))
+    (restored_open e.moment state.tx (numbered_for state.capabilities.message_interleaving state.tx.rwnd e.queues.queue))
 restored_at e (cookie_wait my) state o is turn = absurd (cc)
 restored_at e (cookie_echoed my held cookie) state o is turn = absurd (cc)
 restored_at e (open_in phase my held) state o is turn = absurd (cc)

@@ -10,13 +10,15 @@ impl Backlog {
     ghost use Rattle.dcsctp_api.specs.spec.queues.SendQueue.{renumbered_under_way, numbered_for};
     ghost use Rattle.dcsctp_api.specs.spec.queues.Sending.{next_turn, queue_numbered, queue_served, turn_counted};
 
-    /// Sets whether messages are interleaved from now on. If that is new, other numbers count than before.
-    /// Each message under way then takes the next one of its stream, so that no other message has the same.
-    pub fn interleave(&mut self, enabled: bool)
+    /// Sets whether messages are interleaved from now on, and the receive window of the peer to which they go. If
+    /// the one is new, other numbers count than before. Each message under way then takes the next one of its
+    /// stream, so that no other message has the same.
+    pub fn interleave(&mut self, enabled: bool, window: u32)
         requires { HasHeldStream self.old }
-        ensures whole { queue_of self.new ≡ numbered_for enabled (queue_of self.old) }
+        ensures whole { queue_of self.new ≡ numbered_for enabled window (queue_of self.old) }
         ensures held { HasHeldStream self.new }
     {
+        self.window = window;
         match (self.is_interleaved, enabled) {
             (false, false) | (true, true) => {}
             (false, true) | (true, false) => self.number_all_anew(enabled),

@@ -3,6 +3,7 @@
 ghost use Rattle.std.specs.Prelude.{◌≡◌};
 
 use super::Backlog;
+use super::reserving::{message_reserve, reserve_begun};
 use crate::{DataToSend, UnderWay};
 use dcsctp_api::{Events, SocketTime, StreamId};
 use std::alloc::AllocError;
@@ -15,8 +16,8 @@ impl Backlog {
     ghost use Rattle.dcsctp_api.specs.types.queues.SendStreams.{Waiting, front_of, stream_at};
     ghost use Rattle.dcsctp_send_queue.specs.Telling.{contents, AddsFront};
     ghost use Rattle.dcsctp_send_queue.specs.Fragment.{HasSize};
-    ghost use Rattle.dcsctp_api.specs.spec.queues.Sending.{fragment, after_part, part_events, after_last, last_events, DropsAll, size_produced, queue_after_producing, produced_events, begun_under_way, next_progress, is_too_old, TakesNextFragment, DiscardsNamed};
-    ghost use Rattle.dcsctp_send_queue.specs.Leaving.{HasMore, HasUnsentBytes, DropsSome, NextUnexpired};
+    ghost use Rattle.dcsctp_api.specs.spec.queues.Sending.{fragment, after_part, part_events, after_last, last_events, DropsAll, size_produced, queue_after_producing, produced_events, begun_under_way, next_progress, is_too_old, may_send_part, IsChosen, TakesNextFragment, DiscardsNamed};
+    ghost use Rattle.dcsctp_send_queue.specs.Leaving.{HasMore, HasUnsentBytes, DropsSome, MayBegin, NextUnexpired};
     ghost use Rattle.dcsctp_send_queue.specs.Calls.{StopsTaking, StopsDiscarding};
 
     /// The oldest message of the stream as it is begun, before its first fragment.
@@ -177,8 +178,9 @@ impl Backlog {
         if !self.is_front_named(place, message_id) {
             return Ok(false);
         }
+        let size = self.front_size(place);
         self.drop_front(events, place, under_way.sent)?;
-        self.release(stream_id);
+        self.release(stream_id, reserve_begun(size, under_way));
         Ok(true)
     }
 
@@ -195,6 +197,52 @@ impl Backlog {
         match self.streams.at(place).under_way() {
             Some(under_way) => under_way,
             None => self.begun(place),
+        }
+    }
+
+    // How many bytes the oldest message of the stream has.
+    #[inline(always)]
+    fn front_size(&self, place: usize) -> usize
+        requires { place < length self.now.streams }
+        ensures { (message : Waiting)
+            → front_of (stream_at self.now.streams place).messages ≡ Some message
+            → result ≡ length message.payload }
+    {
+        match self.streams.at(place).front() {
+            None => 0,
+            Some(message) => message.size(),
+        }
+    }
+
+    // May a fragment of at most `max` bytes of the stream's oldest message be sent?
+    #[inline(always)]
+    fn may_send_part(&self, place: usize, max: usize) -> bool
+        requires { place < length self.now.streams }
+        ensures { (message : Waiting)
+            → front_of (stream_at self.now.streams place).messages ≡ Some message
+            → result
+            ≡ may_send_part max message (stream_at self.now.streams place) (queue_of self.now) }
+    {
+        let size = self.front_size(place);
+        !self.interleaves()
+            || self.streams.at(place).under_way().is_some()
+            || size <= max
+            || self.has_room_beside(size)
+    }
+
+    // The place of the stream that sends, if it is the turn of the one at this place.
+    #[inline(always)]
+    fn chosen_place(&self, turn: usize, max: usize) -> usize
+        requires { turn < length self.now.streams }
+        ensures { (now : ℕ) → MayBegin now self.now.streams turn
+            → IsChosen now max (queue_of self.now) result }
+    {
+        if self.may_send_part(turn, max) {
+            return turn;
+        }
+        match self.streams.first_under_way() {
+            Some(place) => place,
+            None => turn,
         }
     }
 
@@ -227,7 +275,8 @@ impl Backlog {
         Ok(Some(data))
     }
 
-    /// Takes the next fragment, of at most `max` bytes, of the stream whose turn it is; none if none has one.
+    /// Takes the next fragment, of at most `max` bytes, of the stream whose turn it is, or, if the peer has no room for
+    /// its message beside those under way, of the first of these; none if no stream has its turn.
     #[inline(always)]
     pub fn begin_next(
         &mut self,
@@ -248,9 +297,10 @@ impl Backlog {
             (StopsTaking now max (queue_of self.old) (contents events.old) (queue_of self.new)
             (contents events.new)) }
     {
-        let Some(place) = self.next_unexpired(events, now)? else {
+        let Some(turn) = self.next_unexpired(events, now)? else {
             return Ok(None);
         };
+        let place = self.chosen_place(turn, max);
         let under_way = self.next_progress(place);
         let data = self.produce(events, place, under_way, max)?;
         Ok(Some(data))
@@ -285,6 +335,7 @@ impl Backlog {
     {
         let message = self.streams.at(place).front().unwrap();
         let data = message.part(self.alloc, under_way, size)?;
+        let whole = message.size();
         let is_unordered = message.is_unordered();
         let is_abandonable = message.may_be_abandoned();
         self.tell_low(events, place, size)?;
@@ -300,6 +351,10 @@ impl Backlog {
         };
         self.streams.go_on(place, further);
         self.held = self.held_by(under_way.stream_id, is_abandonable);
+        self.reserve(
+            reserve_begun(whole, under_way),
+            message_reserve(whole, further),
+        );
         Ok(data)
     }
 
@@ -334,14 +389,15 @@ impl Backlog {
     {
         let message = self.streams.at(place).front().unwrap();
         let rest = message.copied_rest(self.alloc, under_way.sent)?;
-        let left = message.size().saturating_sub(under_way.sent);
+        let whole = message.size();
+        let left = whole.saturating_sub(under_way.sent);
         let is_unordered = message.is_unordered();
         self.tell_low(events, place, left)?;
         message.tell_fully_sent(events)?;
         self.reduce(place, left);
         self.number(place, under_way.sent == 0, is_unordered);
         self.count_turn(place, under_way.sent == 0, left);
-        self.release(under_way.stream_id);
+        self.release(under_way.stream_id, reserve_begun(whole, under_way));
         let message = self.streams.pop(place).unwrap();
         Ok(message.last_part(under_way, rest))
     }

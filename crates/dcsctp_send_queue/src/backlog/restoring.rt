@@ -5,6 +5,7 @@ ghost use Rattle.dcsctp_api.specs.types.SnapshotItems.{queued_part};
 ghost use Rattle.dcsctp_api.specs.spec.queues.QueuedParts.{progress_again};
 
 use super::Backlog;
+use super::reserving::reserve_begun;
 use crate::{QueuedMessage, UnderWay};
 use dcsctp_api::types::{HandoverOutgoingStream, HandoverStreamMessage};
 use dcsctp_api::{SocketTime, StreamId};
@@ -43,6 +44,7 @@ impl Backlog {
         self.streams.empty_all();
         self.held = None;
         self.total_amount = 0;
+        self.reserved = 0;
     }
 
     // Gives a stream the numbers and the priority that the snapshot has. `Err`: an allocation failed.
@@ -128,18 +130,26 @@ impl Backlog {
         if goes_on {
             let rest = part.payload.len() - part.remaining_offset;
             self.put_rest(stream_id, message, rest)?;
-            self.go_on_again(stream_id, is_abandonable, progress_again(part));
+            let size = part.payload.len();
+            self.go_on_again(stream_id, is_abandonable, size, progress_again(part));
         } else {
             self.put_rest(stream_id, message, part.payload.len())?;
         }
         Ok(())
     }
 
-    // The oldest message of the stream, which is the only one, continues where it was.
-    fn go_on_again(&mut self, stream_id: StreamId, is_abandonable: bool, under_way: UnderWay)
+    // The oldest message of the stream, which is the only one and has that many bytes, continues where it was.
+    fn go_on_again(
+        &mut self,
+        stream_id: StreamId,
+        is_abandonable: bool,
+        size: usize,
+        under_way: UnderWay,
+    )
         requires { IsUnderWay stream_id.0 (queue_stream (queue_of self.old) stream_id.0).messages
             under_way }
-        ensures whole { (message : Waiting) → is_abandonable ≡ may_be_abandoned message → queue_of
+        ensures whole { (message : Waiting) → is_abandonable ≡ may_be_abandoned message
+            → size ≡ length message.payload → queue_of
             self.new ≡ queue_continued stream_id.0 message under_way (queue_of self.old) }
         ensures held { (message : Waiting) → is_abandonable ≡ may_be_abandoned message
             → HasHeldStream self.old → HasHeldStream self.new }
@@ -148,6 +158,7 @@ impl Backlog {
             Ok(place) => {
                 self.streams.go_on(place, under_way);
                 self.hold_again(stream_id, is_abandonable);
+                self.reserve(0, reserve_begun(size, under_way));
             }
             Err(_) => {}
         }

@@ -1,6 +1,7 @@
 //! How far a stream's oldest message has come.
 
 use super::OutgoingStream;
+use crate::paused::Standing;
 use dcsctp_api::types::{Pause, UnderWay};
 
 impl OutgoingStream {
@@ -8,7 +9,7 @@ impl OutgoingStream {
     ghost use Rattle.dcsctp_api.specs.types.queues.SendStreams.{stream_with_progress, stream_put_back, progress_size};
     ghost use Rattle.dcsctp_api.specs.spec.queues.SendQueue.{HaveBytes, CanGoOn, IsUnderWay};
     ghost use Rattle.dcsctp_api.specs.spec.queues.OwnResets.{count_under_way};
-    ghost use Rattle.dcsctp_send_queue.specs.Pausing.{pause_in_order};
+    ghost use Rattle.dcsctp_send_queue.specs.Pausing.{pause_in_order, standing_of};
 
     /// How far its oldest message has come, if it was started.
     pub fn under_way(&self) -> Option<UnderWay>
@@ -29,9 +30,18 @@ impl OutgoingStream {
         }
     }
 
-    /// Its pause, as far as others need to know it: while a message is under way, a stream that is to be reset
-    /// can't be handed out.
-    pub fn pause_in_order(&self) -> Pause
+    /// In which lists of streams it is.
+    pub fn standing(&self) -> Standing
+        ensures { result ≡ standing_of self.now }
+    {
+        Standing {
+            pause: self.pause_in_order(),
+            is_under_way: self.under_way.is_some(),
+        }
+    }
+
+    // Its pause, as far as others need to know it.
+    fn pause_in_order(&self) -> Pause
         ensures { result ≡ pause_in_order self.now }
     {
         match self.pause {

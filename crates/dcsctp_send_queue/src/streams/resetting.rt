@@ -49,12 +49,12 @@ impl Streams {
         let stream = self.items.at_mut(place);
         let id = stream.id();
         let before = stream.turn();
-        let pause_before = stream.pause_in_order();
+        let stood = stream.standing();
         stream.pause(kept);
         let after = stream.turn();
-        let pause_after = stream.pause_in_order();
+        let stands = stream.standing();
         move_turn(&mut self.turns, before, after);
-        self.paused.move_stream(id, pause_before, pause_after);
+        self.paused.move_stream(id, stood, stands);
     }
 
     /// Hands the stream out to be reset.
@@ -65,12 +65,12 @@ impl Streams {
         let stream = self.items.at_mut(place);
         let id = stream.id();
         let before = stream.turn();
-        let pause_before = stream.pause_in_order();
+        let stood = stream.standing();
         stream.hand_out();
         let after = stream.turn();
-        let pause_after = stream.pause_in_order();
+        let stands = stream.standing();
         move_turn(&mut self.turns, before, after);
-        self.paused.move_stream(id, pause_before, pause_after);
+        self.paused.move_stream(id, stood, stands);
     }
 
     /// Ends the stream's pause, and counts its messages from 0 again.
@@ -82,12 +82,12 @@ impl Streams {
         let stream = self.items.at_mut(place);
         let id = stream.id();
         let before = stream.turn();
-        let pause_before = stream.pause_in_order();
+        let stood = stream.standing();
         stream.begin_anew();
         let after = stream.turn();
-        let pause_after = stream.pause_in_order();
+        let stands = stream.standing();
         move_turn(&mut self.turns, before, after);
-        self.paused.move_stream(id, pause_before, pause_after);
+        self.paused.move_stream(id, stood, stands);
     }
 
     /// It was reset, if it was handed out: its pause ends, and its messages are counted from 0 again.
@@ -99,12 +99,12 @@ impl Streams {
         let stream = self.items.at_mut(place);
         let id = stream.id();
         let before = stream.turn();
-        let pause_before = stream.pause_in_order();
+        let stood = stream.standing();
         stream.commit();
         let after = stream.turn();
-        let pause_after = stream.pause_in_order();
+        let stands = stream.standing();
         move_turn(&mut self.turns, before, after);
-        self.paused.move_stream(id, pause_before, pause_after);
+        self.paused.move_stream(id, stood, stands);
     }
 
     /// It was not reset, if it was handed out: its pause ends.
@@ -115,12 +115,12 @@ impl Streams {
         let stream = self.items.at_mut(place);
         let id = stream.id();
         let before = stream.turn();
-        let pause_before = stream.pause_in_order();
+        let stood = stream.standing();
         stream.roll_back();
         let after = stream.turn();
-        let pause_after = stream.pause_in_order();
+        let stands = stream.standing();
         move_turn(&mut self.turns, before, after);
-        self.paused.move_stream(id, pause_before, pause_after);
+        self.paused.move_stream(id, stood, stands);
     }
 
     /// Drops the messages of the stream, and counts them from 0 again.
@@ -131,12 +131,12 @@ impl Streams {
         let stream = self.items.at_mut(place);
         let id = stream.id();
         let before = stream.turn();
-        let pause_before = stream.pause_in_order();
+        let stood = stream.standing();
         stream.empty();
         let after = stream.turn();
-        let pause_after = stream.pause_in_order();
+        let stands = stream.standing();
         move_turn(&mut self.turns, before, after);
-        self.paused.move_stream(id, pause_before, pause_after);
+        self.paused.move_stream(id, stood, stands);
     }
 
     /// Ends every pause, and counts all messages from 0 again.

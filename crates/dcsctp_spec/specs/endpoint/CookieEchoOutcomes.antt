@@ -116,12 +116,12 @@ queues_with e cookie queue =
 
 -- What waits to be sent starts again if there was a peer.
 abbrev pub queues_begun : Endpoint → Cookie → EndpointQueues
-queues_begun e cookie = queues_with e cookie (renumbered_queue e.queues.queue (interleaves e cookie))
+queues_begun e cookie = queues_with e cookie (renumbered_queue e.queues.queue (interleaves e cookie) (window_by_cookie e.options cookie))
 
 -- Otherwise what waits stays, numbered as negotiated; by the RFC its numbers start again, too (RFC 9260, sections 5.1 and 6.5).
 abbrev pub queue_if_kept : Bool → Endpoint → Cookie → SendQueueState
-queue_if_kept true e cookie = renumbered_queue e.queues.queue (interleaves e cookie)
-queue_if_kept false e cookie = numbered_for (interleaves e cookie) e.queues.queue
+queue_if_kept true e cookie = renumbered_queue e.queues.queue (interleaves e cookie) (window_by_cookie e.options cookie)
+queue_if_kept false e cookie = numbered_for (interleaves e cookie) (window_by_cookie e.options cookie) e.queues.queue
 
 abbrev pub queues_kept : Endpoint → Cookie → EndpointQueues
 queues_kept e cookie = queues_with e cookie (queue_if_kept e.options.follow_rfc e cookie)

@@ -153,9 +153,9 @@ implementation_named cookie (row ∷ rows) = if starts_with nat_eq cookie row.0 
 abbrev pub implementation_of : List ℕ → SctpImplementation
 implementation_of cookie = if nat_le (length cookie) 8 then Unknown else implementation_named cookie implementations
 
--- the queue as a new association finds it, with its numbers started again
-abbrev pub renumbered_queue : SendQueueState → Bool → SendQueueState
-renumbered_queue queue is_interleaved = numbered_for is_interleaved (queue_restarted queue)
+-- the queue as a new association with a peer of this window finds it, with its numbers started again
+abbrev pub renumbered_queue : SendQueueState → Bool → ℕ → SendQueueState
+renumbered_queue queue is_interleaved window = numbered_for is_interleaved window (queue_restarted queue)
 
 -- the peer that an INIT ACK shows: a COOKIE ACK is awaited
 abbrev pub awaits_cookie_ack : Endpoint → Pair → Introduction → List ℕ → ℕ → Endpoint
@@ -169,7 +169,7 @@ awaits_cookie_ack e mine theirs cookie tie =
       timers = record e.timers { t1 = started_timer e.moment (t1_settings e.options (as_nanos e.options.t1_cookie_timeout)); reconfiguration = None };
       peer_implementation = implementation_of cookie;
       queues = record {
-        queue = renumbered_queue e.queues.queue held.capabilities.message_interleaving;
+        queue = renumbered_queue e.queues.queue held.capabilities.message_interleaving theirs.window;
         transfer = Some (new_transfer e.options held.capabilities mine.first_tsn theirs.pair.first_tsn theirs.window);
       };
       left = [];

@@ -80,7 +80,7 @@ restored_endpoint e state transfer =
       outstanding = None;
       timers = timers_restored e state.my_verification_tag;
       queues = record {
-        queue = queue_restored e.moment state.tx (numbered_for state.capabilities.message_interleaving e.queues.queue);
+        queue = queue_restored e.moment state.tx (numbered_for state.capabilities.message_interleaving state.tx.rwnd e.queues.queue);
         transfer = Some transfer;
       };
       left = [];

@@ -10,7 +10,7 @@ use Rattle.dcsctp_types.specs.Snapshot.{SendPart}
 use Rattle.dcsctp_types.specs.SnapshotItems.{QueuedPart}
 use Rattle.dcsctp_spec.specs.queues.OwnResets.{with_used}
 use Rattle.dcsctp_spec.specs.queues.SendQueue.{SendQueueState, stream_changed, queue_stream}
-use Rattle.dcsctp_spec.specs.queues.Sending.{stream_held_after}
+use Rattle.dcsctp_spec.specs.queues.Sending.{reserve_begun, reserved_after, stream_held_after}
 use Rattle.dcsctp_types.specs.queues.SendStreams.{Waiting, Stream, front_of, unused_stream, stream_with_progress}
 
 -- ---- numbers that mean none
@@ -87,7 +87,7 @@ emptied_stream stream = unused_stream stream.id stream.priority stream.threshold
 
 -- Nothing waits, and each stream keeps its priority and its threshold.
 abbrev pub queue_emptied : SendQueueState → SendQueueState
-queue_emptied queue = record queue { streams = map emptied_stream queue.streams; held = None; total_amount = 0 }
+queue_emptied queue = record queue { streams = map emptied_stream queue.streams; held = None; total_amount = 0; reserved = 0 }
 
 -- a stream with the numbers and the priority of the snapshot
 abbrev pub stream_restored : HandoverOutgoingStream → Stream → Stream
@@ -157,6 +157,7 @@ queue_continued id message under_way queue =
     record queue {
       streams = stream_changed id (stream_with_progress under_way) queue.streams;
       held = held_again (record { 0 = id }) message queue queue.held;
+      reserved = reserved_after 0 (reserve_begun (length message.payload) under_way) queue;
     }
 
 -- the queue with that message after the others of its stream

@@ -36,6 +36,10 @@ pub record SendQueueState : Type 0 where
   pub turns_taken : ℕ
   -- how many payload bytes a turn has where messages are interleaved
   pub turn_size : ℕ
+  -- the peer's receive window as the association began, in bytes
+  pub window : ℕ
+  -- what messages under way take of it until they end
+  pub reserved : ℕ
 
 -- the payload of an I-DATA chunk that fills a packet of that size (RFC 8260, section 2.1)
 abbrev pub full_payload : ℕ → ℕ
@@ -56,6 +60,8 @@ empty_queue options =
       takes_turns = options.follow_rfc;
       turns_taken = 0;
       turn_size = full_payload options.mtu;
+      window = 0;
+      reserved = 0;
     }
 
 -- ---- what is true of it at all times
@@ -201,11 +207,13 @@ abbrev pub is_other : Bool → Bool → Bool
 is_other true second = not second
 is_other false second = second
 
--- Messages are interleaved from now on, or not. If that is new, other numbers count than before.
-abbrev pub numbered_for : Bool → SendQueueState → SendQueueState
-numbered_for enabled queue =
+-- Messages are interleaved from now on, or not, and go to a peer with this receive window. If the one is new, other numbers count
+-- than before.
+abbrev pub numbered_for : Bool → ℕ → SendQueueState → SendQueueState
+numbered_for enabled window queue =
     record queue {
       is_interleaved = enabled;
+      window = window;
       streams = if is_other queue.is_interleaved enabled then map (renumbered_under_way enabled) queue.streams else queue.streams;
     }
 
@@ -226,6 +234,7 @@ put_back queue =
       streams = map stream_put_back queue.streams;
       total_amount = min (queue.total_amount + under_way_size queue.streams) (2 ^ 64 - 1);
       held = None;
+      reserved = 0;
     }
 
 -- ready for another association

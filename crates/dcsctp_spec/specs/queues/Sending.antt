@@ -1,5 +1,6 @@
 -- What leaves the send queue: fragments of messages, and messages that are dropped (RFC 9260, section 6.9; RFC 3758, section 3.5).
-use Rattle.std.specs.Prelude.{◌≡◌, ◌<◌, ℕ, ◌+◌, ◌-◌, ◌^◌, ◌%◌, ◌==◌, ◌&&◌, ◌||◌, not, is_some, min, nat_le, Bool, true, false, Option, None, Some, List, [], ◌++◌, length, take, drop, slice_set, if◌then◌else◌}
+use Rattle.std.specs.Prelude.{◌≡◌, ◌⊎◌, ◌<◌, ℕ, ◌+◌, ◌-◌, ◌*◌, ◌/◌, ◌^◌, ◌%◌, ◌==◌, ◌&&◌, ◌||◌, not, is_some, min, nat_le, nat_lt, Bool, true, false, Option, None, Some, List, [], ◌++◌, length, take, drop, slice_set, if◌then◌else◌}
+use Rattle.std.specs.List.{list_any}
 use Rattle.dcsctp_spec.specs.endpoint.Event.{Event}
 use Rattle.dcsctp_types.specs.declared.ids.StreamId.{StreamId}
 use Rattle.dcsctp_types.specs.declared.sending.UnderWay.{UnderWay}
@@ -119,22 +120,51 @@ progress_after size under_way = record under_way { next_fsn = (under_way.next_fs
 abbrev pub queue_with_progress : ℕ → UnderWay → SendQueueState → SendQueueState
 queue_with_progress place under_way queue = queue_with_stream place (stream_with_progress under_way (stream_at queue.streams place)) queue
 
+-- ---- what messages under way take of the peer's receive window
+
+-- what a receiver may count for a part of a message beside its bytes
+abbrev pub part_cost : ℕ
+part_cost = 256
+
+-- What a message of that many bytes, which has come so far, takes until it ends: its parts that were sent, each with what it costs,
+-- and twice the rest, since further parts have that many bytes at least, but for the last and one that shares its packet.
+abbrev pub message_reserve : ℕ → UnderWay → ℕ
+message_reserve size under_way = 2 * size + 2 * part_cost + part_cost * under_way.next_fsn - under_way.sent
+
+-- the same, but nothing if none of it was sent
+abbrev pub reserve_begun : ℕ → UnderWay → ℕ
+reserve_begun size under_way = if under_way.sent == 0 then 0 else message_reserve size under_way
+
+-- Less is taken, and then more; the sum stops at the greatest 128-bit number.
+abbrev pub reserved_after : ℕ → ℕ → SendQueueState → ℕ
+reserved_after less more queue = min (queue.reserved - less + more) (2 ^ 128 - 1)
+
+-- How much messages under way may take together: seven eighths of the window. Some receivers take no new parts in the last tenth.
+abbrev pub shared_window : SendQueueState → ℕ
+shared_window queue = queue.window - queue.window / 8
+
+-- Is there room for another message of that many bytes beside those under way?
+abbrev pub has_room_beside : ℕ → SendQueueState → Bool
+has_room_beside size queue = nat_le (queue.reserved + (2 * size + 2 * part_cost)) (shared_window queue)
+
+-- ---- the stream that is held
+
 -- May the message be abandoned: has it a limit of retransmissions or of time (RFC 3758, section 4)?
 abbrev pub may_be_abandoned : Waiting → Bool
 may_be_abandoned message = is_some message.max_retransmissions || is_some message.expires_at
 
 -- Does the message, once begun, go to its end before any other is asked? Where messages are interleaved one that may be abandoned
--- does, so that its items have TSNs in a row.
+-- does, so that its items have TSNs in a row. So does any while those under way take more than they may share.
 abbrev pub is_kept_whole : Waiting → SendQueueState → Bool
-is_kept_whole message queue = may_be_abandoned message || not (queue_interleaves queue)
+is_kept_whole message queue = may_be_abandoned message || not (queue_interleaves queue) || nat_lt (shared_window queue) queue.reserved
 
 -- the stream that is held after a fragment that isn't the last of its message
 abbrev pub stream_held_after : StreamId → Waiting → SendQueueState → Option StreamId
 stream_held_after id message queue = if is_kept_whole message queue then Some id else None
 
--- The stream is held no longer, if it was.
-abbrev pub released_queue : ℕ → SendQueueState → SendQueueState
-released_queue id queue = record queue { held = released queue.held }
+-- The stream is held no longer, if it was, and its message takes nothing any more.
+abbrev pub released_queue : ℕ → ℕ → SendQueueState → SendQueueState
+released_queue id reserve queue = record queue { held = released queue.held; reserved = queue.reserved - reserve }
   where
     released : Option StreamId → Option StreamId
     released None = None
@@ -145,6 +175,8 @@ abbrev pub after_part : ℕ → ℕ → Waiting → UnderWay → SendQueueState 
 after_part place size message under_way queue =
     record (queue_with_progress place (progress_after size under_way) (fragment_counted place size message under_way (reduced_queue place size queue))) {
       held = stream_held_after under_way.stream_id message queue;
+      reserved =
+          reserved_after (reserve_begun (length message.payload) under_way) (message_reserve (length message.payload) (progress_after size under_way)) queue;
     }
 
 abbrev pub part_events : {P : Type 0} → ℕ → ℕ → SendQueueState → List (Event P)
@@ -153,7 +185,7 @@ part_events place size queue = low_events (stream_at queue.streams place) queue.
 -- after the last fragment
 abbrev pub after_last : ℕ → Waiting → UnderWay → SendQueueState → SendQueueState
 after_last place message under_way queue =
-    released_queue under_way.stream_id.0
+    released_queue under_way.stream_id.0 (reserve_begun (length message.payload) under_way)
     (without_oldest place
     (fragment_counted place (length message.payload - under_way.sent) message under_way
     (reduced_queue place (length message.payload - under_way.sent) queue)))
@@ -210,11 +242,46 @@ next_progress message stream = come_to stream.under_way
     come_to None = begun_under_way message stream
     come_to (Some under_way) = under_way
 
--- Of which stream's oldest message a fragment is taken: of the one that is held, or else of the one whose turn it is. Before that,
--- messages that are too old to be started are dropped.
-abbrev pub Chooses : ℕ → SendQueueState → Option StreamId → SendQueueState → ℕ → Waiting → Type 0
-Chooses now old None queue place message = IsNext queue.streams place × (is_too_old now message (stream_at queue.streams place) ≡ false)
-Chooses now old (Some held) queue place message = (queue ≡ old) × ((stream_at queue.streams place).id ≡ held.0)
+-- May a fragment of at most `max` bytes of the stream's oldest message be sent? Where messages are interleaved it may if the message
+-- was begun, if it is sent whole, or if the peer has room for it beside those under way.
+abbrev pub may_send_part : ℕ → Waiting → Stream → SendQueueState → Bool
+may_send_part max message stream queue =
+    not (queue_interleaves queue) || is_some stream.under_way || nat_le (length message.payload) max
+    || has_room_beside (length message.payload) queue
+
+-- Is a message of the stream under way: was its oldest message begun?
+abbrev pub has_begun : Stream → Bool
+has_begun stream = is_some stream.under_way && is_some (front_of stream.messages)
+
+-- The stream at the place is the first of those that have a message under way.
+pub record IsFirstUnderWay (streams : List Stream) (place : ℕ) : Type 0 where
+  pub within : place < length streams
+  pub goes_on : has_begun (stream_at streams place) ≡ true
+  pub first : (k : ℕ) → k < place → has_begun (stream_at streams k) ≡ false
+
+-- No stream has a message under way.
+abbrev pub AreNoneUnderWay : List Stream → Type 0
+AreNoneUnderWay streams = list_any has_begun streams ≡ false
+
+-- Which stream sends: the one whose turn it is if it may, or if no message is under way, and else the first of those that have one.
+abbrev pub PassesTurn : Bool → List Stream → ℕ → ℕ → Type 0
+PassesTurn true streams turn place = place ≡ turn
+PassesTurn false streams turn place = IsFirstUnderWay streams place ⊎ (AreNoneUnderWay streams × (place ≡ turn))
+
+-- Where no stream is held, the one at this place sends. The message whose turn it is isn't too old to be started.
+pub record IsChosen (now max : ℕ) (queue : SendQueueState) (place : ℕ) : Type 0 where
+  pub turn : ℕ
+  pub next : IsNext queue.streams turn
+  pub message : Waiting
+  pub front : front_of (stream_at queue.streams turn).messages ≡ Some message
+  pub fresh : is_too_old now message (stream_at queue.streams turn) ≡ false
+  pub sends : PassesTurn (may_send_part max message (stream_at queue.streams turn) queue) queue.streams turn place
+
+-- Of which stream's oldest message a fragment of at most `max` bytes is taken: of the one that is held, or else of the one that is
+-- chosen. Before that, messages that are too old to be started are dropped.
+abbrev pub Chooses : ℕ → ℕ → SendQueueState → Option StreamId → SendQueueState → ℕ → Type 0
+Chooses now max old None queue place = IsChosen now max queue place
+Chooses now max old (Some held) queue place = (queue ≡ old) × ((stream_at queue.streams place).id ≡ held.0)
 
 -- A fragment is taken.
 pub record TakesFragment {P : Type 0} (now max : ℕ) (old : SendQueueState) (told_before : List (Event P)) (part : Fragment) (new : SendQueueState) (told_after : List (Event P)) : Type 0 where
@@ -226,7 +293,7 @@ pub record TakesFragment {P : Type 0} (now max : ℕ) (old : SendQueueState) (to
   pub message : Waiting
   pub under_way : UnderWay
   pub front : front_of (stream_at queue.streams place).messages ≡ Some message
-  pub chosen : Chooses now old old.held queue place message
+  pub chosen : Chooses now max old old.held queue place
   pub come : under_way ≡ next_progress message (stream_at queue.streams place)
   pub is : part ≡ fragment under_way message (size_produced max message under_way)
   pub left : new ≡ queue_after_producing place max message under_way queue
@@ -258,7 +325,8 @@ pub record IsMessageUnderWay (queue : SendQueueState) (stream message_id : ℕ) 
 -- What is left of the message under way is dropped.
 pub record Discards {P : Type 0} (old : SendQueueState) (stream message_id : ℕ) (told_before : List (Event P)) (new : SendQueueState) (told_after : List (Event P)) : Type 0 where
   pub named : IsMessageUnderWay old stream message_id
-  pub left : new ≡ released_queue stream (without_rest named.place named.under_way.sent named.message old)
+  pub left : new
+      ≡ released_queue stream (reserve_begun (length named.message.payload) named.under_way) (without_rest named.place named.under_way.sent named.message old)
   pub events : told_after ≡ told_before ++ drop_events named.place named.under_way.sent named.message old
 
 abbrev pub DiscardsNamed : {P : Type 0} → SendQueueState → ℕ → ℕ → List (Event P) → Bool → SendQueueState → List (Event P) → Type 0

@@ -95,7 +95,7 @@ impl Sender {
     /// Nothing waits, and the first TSN is this.
     pub fn new(alloc: Global, options: &Options, first_tsn: u32, interleaving: bool) -> Sender {
         let mut queue = SendQueue::new(alloc, options);
-        queue.enable_message_interleaving(interleaving);
+        queue.enable_message_interleaving(interleaving, 200_000);
         Sender {
             alloc,
             interleaving,

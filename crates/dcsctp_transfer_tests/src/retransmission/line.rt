@@ -111,7 +111,7 @@ impl Line {
         let options = options();
         let (partial_reliability, interleaving) = negotiated;
         let mut queue = SendQueue::new(alloc, &options);
-        queue.enable_message_interleaving(interleaving);
+        queue.enable_message_interleaving(interleaving, window);
         let sent = RetransmissionQueue::new(
             alloc,
             &options,

@@ -261,6 +261,72 @@ fragment 4 stream 1 ssn 0 efgh
 fragment 4 stream 2 ssn 0 klmn
 fragment 4 stream 2 ssn 0 opqr
 
+# of a window of 2,000 bytes 1,750 are shared: a message of 8 bytes takes 528 at first, and 252 more with a part of 4
+begin 0 0 mtu 36
+window 2000
+add 1 abcdefgh
+add 2 klmnopqr
+add 3 stuvwxyz
+fragment 4 stream 1 abcd
+fragment 4 stream 2 klmn
+fragment 4 stream 1 efgh
+fragment 4 stream 3 stuv
+fragment 4 stream 2 opqr
+fragment 4 stream 3 wxyz
+fragment 4 size 0
+
+# a message that one fragment holds waits for no room
+begin 0 0 mtu 36
+window 2000
+add 1 abcdefgh
+add 2 klmnopqr
+add 3 stuv
+fragment 4 stream 1 abcd
+fragment 4 stream 2 klmn
+fragment 4 stream 3 stuv
+fragment 4 stream 1 efgh
+fragment 4 stream 2 opqr
+
+# once parts take more than the 1,400 bytes that are shared, the stream that sends goes to its end: 788 and 780 of 12 and 8
+begin 0 0 mtu 36
+window 1600
+add 1 abcdefghijkl
+add 2 mnopqrst
+fragment 4 stream 1 abcd
+fragment 4 stream 2 mnop
+fragment 4 stream 1 efgh
+fragment 4 stream 1 ijkl
+fragment 4 stream 2 qrst
+
+# one that the window doesn't hold is begun where no other is under way
+begin 0 0 mtu 36
+window 100
+add 1 abcdefgh
+add 2 klmnopqr
+fragment 4 stream 1 abcd
+fragment 4 stream 1 efgh
+fragment 4 stream 2 klmn
+fragment 4 stream 2 opqr
+
+# what is handed over takes as much where it goes on, and a dropped message nothing more
+begin 0 0 mtu 36
+window 2000
+add 2 klmnopqr
+add 3 stuvwxyz
+fragment 4 stream 2 klmn
+fragment 4 stream 3 stuv
+hand-over 1
+another 0 0 256 mtu 36
+window 2000
+restore
+add 1 abcdefgh
+fragment 4 stream 2 opqr
+fragment 4 stream 1 abcd
+discard 3 1 done 1
+add 2 ijklmnop
+fragment 4 stream 2 ijkl
+fragment 4 stream 1 efgh
+
 # each goes on where it is handed over
 begin 0 0 mtu 36
 interleave

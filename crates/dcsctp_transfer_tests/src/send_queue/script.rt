@@ -16,7 +16,8 @@
 //!     prepare S, commit, roll-back    a reset of streams
 //!     hand-out N [S, ..]          the streams that are handed out, N at most
 //!     reset                       a new association begins
-//!     interleave, interleave-no-more  messages are interleaved from now on, or no longer
+//!     interleave, interleave-no-more  messages are interleaved from now on, or no longer; the peer's window is large
+//!     window N                    messages are interleaved from now on, and the peer's window has N bytes
 //!     priority S N, threshold S N     gives the stream a priority or a threshold of its own
 //!     state S NUMBERS             what the queue answers
 //!     tells [EVENT]               the next event, as `Debug` writes it; without one: there is none

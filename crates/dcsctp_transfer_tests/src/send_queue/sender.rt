@@ -7,6 +7,9 @@ use dcsctp_testing::{Row, Takes};
 use std::alloc::{AllocError, Global};
 use std::time::Duration;
 
+// The receive window of the peer, in bytes.
+const PEER_WINDOW: u32 = 1_000_000;
+
 /// A queue, its events, the moment, how the next message is sent, and the last snapshot.
 pub struct Sender {
     alloc: Global,
@@ -262,6 +265,7 @@ impl Sender {
             "lifetime" => self.how.lifetime = Some(Duration::from_millis(row.number())),
             "times" => self.how.max_retransmissions = Some(row.number()),
             "use-up" => self.use_up(row),
+            "window" => self.queue.enable_message_interleaving(true, row.number()),
             "fragment" => {
                 let max = row.number();
                 self.fragment(row, max);
@@ -285,8 +289,8 @@ impl Takes<&'static str> for Sender {
             "commit" => self.queue.commit_reset_streams(),
             "roll-back" => self.queue.rollback_reset_streams(),
             "reset" => self.queue.reset(),
-            "interleave" => self.queue.enable_message_interleaving(true),
-            "interleave-no-more" => self.queue.enable_message_interleaving(false),
+            "interleave" => self.queue.enable_message_interleaving(true, PEER_WINDOW),
+            "interleave-no-more" => self.queue.enable_message_interleaving(false, PEER_WINDOW),
             "tells" => self.tells(row),
             _ => self.take_number(row, keyword),
         }

@@ -5,7 +5,6 @@ use Rattle.dcsctp_core.specs.spec.Packet.{introduction_of_init}
 use Rattle.dcsctp_core.specs.declared.context.Context.{Context}
 use Rattle.dcsctp_core.specs.View.{view_of}
 use Rattle.dcsctp_core.specs.Drawing.{long_word}
-use Rattle.dcsctp_core.proofs.spec_lemmas.SendQueueLemmas.{anew_either}
 use Rattle.dcsctp_core_handshake.proofs.InitAckSteps.{accepts, accepts_cut, acceptance_unmade}
 use Rattle.dcsctp_core_handshake.proofs.connect.echo_cookie.Goals as goal
 
@@ -25,7 +24,7 @@ returns-in_err-send_cookie_echo g c =
     let old = c.args.context.now in
     rw (err_from_is_err_and c.from_residual-in_err-send_cookie_echo.result c.from_residual-in_err-send_cookie_echo.ensures.1).1
     (accepts_cut g.R.Rng.stream (view_of old) _ _ c.args.my (introduction_of_init (init_content c.args.init_ack.now)) c.args.cookie.now (long_word (g.R.Rng.stream (view_of old).generator)) refl
-    (search (rules, anew_either))
+    (search rules)
     (ap (λ (x : Context g.row.R.Denot). (view_of x).events) c.in_ok-tie_tag.ensures.only)
     c.in_err-send_cookie_echo.ensures)
 
@@ -33,6 +32,6 @@ pub returns : goal.returns
 returns g c =
     let old = c.args.context.now in
     accepts g.R.Rng.stream (view_of old) _ _ c.args.my (introduction_of_init (init_content c.args.init_ack.now)) c.args.cookie.now (long_word (g.R.Rng.stream (view_of old).generator)) refl
-    (search (rules, anew_either))
+    (search rules)
     (ap (λ (x : Context g.row.R.Denot). (view_of x).events) c.in_ok-tie_tag.ensures.only) (search rules)
     c.in_ok-send_cookie_echo.ensures

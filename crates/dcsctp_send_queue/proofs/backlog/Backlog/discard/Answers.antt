@@ -1,10 +1,10 @@
-use Rattle.std.proofs.Common.{ap, sym, refl, subst, is_some, ◌∙◌}
+use Rattle.std.proofs.Common.{ap, sym, refl, subst, is_some, length, ◌∙◌}
 use Rattle.std.proofs.lemmas.Result.{err_from_is_err_and}
-use Rattle.dcsctp_send_queue.proofs.GoingOnLemmas.{not_named, none_named, going_front, held-discarded}
+use Rattle.dcsctp_send_queue.proofs.GoingOnLemmas.{not_named, none_named, going_front, discarded_is, held-discarded}
 use Rattle.dcsctp_send_queue.proofs.ResetLemmas.{apart_by, same_by}
 use Rattle.dcsctp_send_queue.specs.Backlog.{queue_of}
 use Rattle.dcsctp_api.specs.types.queues.SendStreams.{Stream, stream_at}
-use Rattle.dcsctp_api.specs.spec.queues.Sending.{released_queue}
+use Rattle.dcsctp_api.specs.spec.queues.Sending.{reserve_begun}
 use Rattle.dcsctp_api.specs.spec.queues.SendQueue.{SendQueueState, CanGoOn, IsHeld}
 use Rattle.dcsctp_send_queue.proofs.backlog.Backlog.discard.Goals as goal
 
@@ -35,7 +35,8 @@ returns-clause-ok c =
         front = front.1;
         named = same_by front.0.message_id c.args.message_id (sym (c.is_front_named.ensures front.0 front.1) ∙ c.if-not-is_front_named.false);
       };
-      left = c.release.ensures ∙ ap {A = SendQueueState} (λ (q : SendQueueState). released_queue c.args.stream_id.0 q) (c.in_ok-drop_front.ensures.ok front.0 front.1);
+      left = discarded_is (queue_of c.args.self.now) (queue_of c.drop_front.new.self) (queue_of c.release.new.self) c.in-Ok.place front.0 c.in-Some.under_way c.args.stream_id.0 c.front_size-size.result
+          c.reserve_begun.result (c.front_size-size.ensures front.0 front.1) c.reserve_begun.ensures (c.in_ok-drop_front.ensures.ok front.0 front.1) c.release.ensures;
       events = c.in_ok-drop_front.ensures.told front.0 front.1;
     }
 
@@ -43,9 +44,10 @@ pub returns-clause-held : goal.returns-clause-held
 returns-clause-held c =
     let goes = ap (λ (s : Stream). s.under_way) (sym c.at.ensures) ∙ (sym c.under_way.ensures.progress ∙ c.in-Some.is) in
     let front = going_front (stream_at c.args.self.now.streams c.in-Ok.place) (ap is_some goes) (subst CanGoOn c.at.ensures c.under_way.ensures.can) in
-    let left = c.release.ensures ∙ ap {A = SendQueueState} (λ (q : SendQueueState). released_queue c.args.stream_id.0 q) (c.in_ok-drop_front.ensures.ok front.0 front.1) in
+    let left = discarded_is (queue_of c.args.self.now) (queue_of c.drop_front.new.self) (queue_of c.release.new.self) c.in-Ok.place front.0 c.in-Some.under_way c.args.stream_id.0 c.front_size-size.result
+    c.reserve_begun.result (c.front_size-size.ensures front.0 front.1) c.reserve_begun.ensures (c.in_ok-drop_front.ensures.ok front.0 front.1) c.release.ensures in
     subst (λ (q : SendQueueState). IsHeld q.held q.streams) (sym left)
-    (held-discarded (queue_of c.args.self.now) c.in-Ok.place c.in-Some.under_way.sent front.0 c.args.stream_id.0 c.requires c.in-Ok.ensures.found.1)
+    (held-discarded (queue_of c.args.self.now) c.in-Ok.place c.in-Some.under_way.sent front.0 c.args.stream_id.0 (reserve_begun (length front.0.payload) c.in-Some.under_way) c.requires c.in-Ok.ensures.found.1)
 
 pub returns-in_err-drop_front-clause-front : goal.returns-in_err-drop_front-clause-front
 returns-in_err-drop_front-clause-front c =

@@ -43,7 +43,7 @@ returns-clause-ok c now =
       message = front.0;
       under_way = c.next_progress-under_way.result;
       front = front.1;
-      chosen = chosen_held now (queue_of c.args.self.now) c.place_of-place.result front.0 c.args.held c.args.self.now.held c.requires.goes_on going.is;
+      chosen = chosen_held now c.args.max (queue_of c.args.self.now) c.place_of-place.result c.args.held c.args.self.now.held c.requires.goes_on going.is;
       come = c.next_progress-under_way.ensures.come front.0 front.1;
       is = c.in_ok-data.ensures.ok front.0 front.1;
       left = c.in_ok-data.ensures.left front.0 front.1;
@@ -81,7 +81,7 @@ returns-in_err-data-clause-front c now =
         message = front.0;
         under_way = c.next_progress-under_way.result;
         front = front.1;
-        chosen = chosen_held now (queue_of c.args.self.now) c.place_of-place.result front.0 c.args.held c.args.self.now.held c.requires.goes_on going.is;
+        chosen = chosen_held now c.args.max (queue_of c.args.self.now) c.place_of-place.result c.args.held c.args.self.now.held c.requires.goes_on going.is;
         come = c.next_progress-under_way.ensures.come front.0 front.1;
         is = refl;
       });

@@ -17,7 +17,7 @@ returns-in_err-tell_low-clause-front c message front =
     let both : Some c.unwrap-message.result.now ≡ Some message = ap option_copied (sym c.unwrap-message.ensures) ∙ (c.front.ensures ∙ (ap (λ (s : Stream). front_of s.messages) c.at.ensures ∙ front)) in
     let same : c.unwrap-message.result.now ≡ message = cc in
     let size : c.saturating_sub-left.result ≡ length message.payload - c.args.under_way.sent =
-    c.saturating_sub-left.ensures ∙ ap (λ (n : ℕ). n - c.args.under_way.sent) (c.size.ensures.value ∙ ap (λ (m : Waiting). length m.payload) same) in
+    c.saturating_sub-left.ensures ∙ ap (λ (n : ℕ). n - c.args.under_way.sent) (c.size-whole.ensures.value ∙ ap (λ (m : Waiting). length m.payload) same) in
     let P : ℕ → Type 0 = λ n. AddsFront (contents c.args.events.now) (part_events c.args.place n (queue_of c.args.self.now)) (contents c.tell_low.new.events) in
     rw (err_from_is_err_and c.from_residual-in_err-tell_low.result c.from_residual-in_err-tell_low.ensures.1).1
     (front_left (contents c.args.events.now) (part_events c.args.place (length message.payload - c.args.under_way.sent) (queue_of c.args.self.now)) (sent_events message) (contents c.tell_low.new.events)
@@ -28,7 +28,7 @@ returns-in_err-tell_fully_sent-clause-front c message front =
     let both : Some c.unwrap-message.result.now ≡ Some message = ap option_copied (sym c.unwrap-message.ensures) ∙ (c.front.ensures ∙ (ap (λ (s : Stream). front_of s.messages) c.at.ensures ∙ front)) in
     let same : c.unwrap-message.result.now ≡ message = cc in
     let size : c.saturating_sub-left.result ≡ length message.payload - c.args.under_way.sent =
-    c.saturating_sub-left.ensures ∙ ap (λ (n : ℕ). n - c.args.under_way.sent) (c.size.ensures.value ∙ ap (λ (m : Waiting). length m.payload) same) in
+    c.saturating_sub-left.ensures ∙ ap (λ (n : ℕ). n - c.args.under_way.sent) (c.size-whole.ensures.value ∙ ap (λ (m : Waiting). length m.payload) same) in
     let P : Waiting → Type 0 = λ m. AddsFront (contents c.tell_low.new.events) (sent_events m) (contents c.tell_fully_sent.new.events) in
     rw (err_from_is_err_and c.from_residual-in_err-tell_fully_sent.result c.from_residual-in_err-tell_fully_sent.ensures.1).1
     (front_right (contents c.args.events.now) (part_events c.args.place (length message.payload - c.args.under_way.sent) (queue_of c.args.self.now)) (contents c.tell_low.new.events) (sent_events message) (contents c.tell_fully_sent.new.events)
@@ -41,11 +41,13 @@ returns-clause-left c message front =
     let both : Some c.unwrap-message.result.now ≡ Some message = ap option_copied (sym c.unwrap-message.ensures) ∙ (c.front.ensures ∙ (ap (λ (s : Stream). front_of s.messages) c.at.ensures ∙ front)) in
     let same : c.unwrap-message.result.now ≡ message = cc in
     let size : c.saturating_sub-left.result ≡ length message.payload - c.args.under_way.sent =
-    c.saturating_sub-left.ensures ∙ ap (λ (n : ℕ). n - c.args.under_way.sent) (c.size.ensures.value ∙ ap (λ (m : Waiting). length m.payload) same) in
+    c.saturating_sub-left.ensures ∙ ap (λ (n : ℕ). n - c.args.under_way.sent) (c.size-whole.ensures.value ∙ ap (λ (m : Waiting). length m.payload) same) in
     let counted = counted_is old (queue_of c.reduce.new.self) (queue_of c.number.new.self) turned c.args.place c.saturating_sub-left.result message c.args.under_way c.is_unordered-is_unordered.result
     c.reduce.ensures c.number.ensures (c.is_unordered-is_unordered.ensures ∙ ap (λ (m : Waiting). m.is_unordered) same) c.count_turn.ensures in
+    let whole : c.size-whole.result ≡ length message.payload = c.size-whole.ensures.value ∙ ap (λ (m : Waiting). length m.payload) same in
+    let released = rw (c.reserve_begun.ensures, whole) at c.release.ensures in
     last_is old turned (queue_of c.release.new.self) c.args.place message c.args.under_way c.pop.new.self
-    (subst (λ (n : ℕ). turned ≡ fragment_counted c.args.place n message c.args.under_way (reduced_queue c.args.place n old)) size counted) c.release.ensures c.pop.ensures.left
+    (subst (λ (n : ℕ). turned ≡ fragment_counted c.args.place n message c.args.under_way (reduced_queue c.args.place n old)) size counted) released c.pop.ensures.left
 
 pub returns-clause-ok : goal.returns-clause-ok
 returns-clause-ok c message front =

@@ -1,4 +1,4 @@
-use Rattle.std.proofs.Common.{◌≡◌, ◌∙◌, Some, refl, ap, sym, arith}
+use Rattle.std.proofs.Common.{◌≡◌, ◌∙◌, Some, length, refl, ap, sym, arith}
 use Rattle.std.specs.Option.{option_copied}
 use Rattle.dcsctp_api.specs.types.queues.SendStreams.{Waiting, Stream, front_of}
 use Rattle.dcsctp_api.specs.spec.queues.SendQueue.{SendQueueState}
@@ -33,5 +33,7 @@ returns-clause-left c message front =
     let same : c.unwrap-message.result.now ≡ message = cc in
     let counted = counted_is old (queue_of c.reduce.new.self) (queue_of c.number.new.self) turned c.args.place c.args.size message c.args.under_way c.is_unordered-is_unordered.result
     c.reduce.ensures c.number.ensures (c.is_unordered-is_unordered.ensures ∙ ap (λ (m : Waiting). m.is_unordered) same) c.count_turn.ensures in
-    part_is old turned c.args.place c.args.size message c.args.under_way _ c.go_on.new.self c.held_by-self.result counted lt c.go_on.ensures
-    refl (c.held_by-self.ensures message (c.may_be_abandoned-is_abandonable.ensures ∙ ap (λ (m : Waiting). may_be_abandoned m) same))
+    let whole : c.size-whole.result ≡ length message.payload = c.size-whole.ensures.value ∙ ap (λ (m : Waiting). length m.payload) same in
+    let takes = rw (c.reserve_begun.ensures, c.message_reserve.ensures, whole) at c.reserve.ensures in
+    takes ∙ part_is old turned c.args.place c.args.size message c.args.under_way _ c.go_on.new.self c.held_by-self.result _ counted lt c.go_on.ensures
+    refl (c.held_by-self.ensures message (c.may_be_abandoned-is_abandonable.ensures ∙ ap (λ (m : Waiting). may_be_abandoned m) same)) refl

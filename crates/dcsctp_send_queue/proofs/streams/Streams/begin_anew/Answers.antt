@@ -1,6 +1,6 @@
 use Rattle.std.proofs.Common.{◌<◌, length, refl}
 use Rattle.dcsctp_send_queue.proofs.BytesLemmas.{bytes_set, can_set}
-use Rattle.dcsctp_send_queue.proofs.PauseLemmas.{holds_pause, paused_read}
+use Rattle.dcsctp_send_queue.proofs.PauseLemmas.{holds_standing, paused_read}
 use Rattle.dcsctp_send_queue.proofs.StreamLemmas.{holds_read, ranked_read}
 use Rattle.dcsctp_send_queue.proofs.streams.Streams.begin_anew.Goals as goal
 
@@ -12,7 +12,7 @@ move_turn-requires c =
 pub move_stream-requires : goal.move_stream-requires
 move_stream-requires c =
     let lt : c.args.place < length c.self.inside.items = rw c.self.view_is c.requires in
-    holds_pause _ _ c.args.place _ _ _ c.self.invariant.ranked.ascending c.self.invariant.paused lt c.at_mut-stream.ensures.value c.id-id.ensures c.pause_in_order-pause_before.ensures
+    holds_standing _ _ c.args.place _ _ _ c.self.invariant.ranked.ascending c.self.invariant.paused lt c.at_mut-stream.ensures.value c.id-id.ensures c.standing-stood.ensures
 
 pub invariant_of-self : goal.invariant_of-self
 invariant_of-self c =
@@ -21,8 +21,7 @@ invariant_of-self c =
       ranked = ranked_read _ _ _ _ _ c.args.place _ _ _ _ c.self.invariant.ranked lt c.at_mut-stream.ensures.value c.turn-before.ensures.turn c.turn-after.ensures.turn
           (rw c.begin_anew.ensures refl) c.move_turn.ensures.turns c.move_turn.ensures.capacity;
       paused = paused_read _ _ _ c.args.place _ _ _ _ _ c.self.invariant.ranked.ascending c.self.invariant.paused lt c.at_mut-stream.ensures.value c.id-id.ensures
-          c.pause_in_order-pause_before.ensures (rw c.begin_anew.ensures refl) c.pause_in_order-pause_after.ensures
-          c.move_stream.ensures.ready c.move_stream.ensures.handed_out c.move_stream.ensures.has_room c.move_stream.ensures.has_more;
+          c.standing-stood.ensures (rw c.begin_anew.ensures refl) c.standing-stands.ensures c.move_stream.ensures;
       bytes = bytes_set _ c.args.place _ c.self.invariant.bytes c.turn-after.ensures.bytes;
       can = can_set _ c.args.place _ c.self.invariant.can c.turn-after.ensures.can;
     }

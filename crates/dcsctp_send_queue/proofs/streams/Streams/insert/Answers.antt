@@ -1,7 +1,7 @@
 use Rattle.std.proofs.Common.{Err, length, arith, refl, ap, ◌∙◌}
 use Rattle.dcsctp_send_queue.specs.Ranking.{IsFound}
 use Rattle.dcsctp_send_queue.proofs.BytesLemmas.{bytes_insert, can_insert}
-use Rattle.dcsctp_send_queue.proofs.PauseLemmas.{holds_fresh, paused_insert}
+use Rattle.dcsctp_send_queue.proofs.PauseLemmas.{HaveRoom, kept_paused, holds_fresh, paused_insert}
 use Rattle.dcsctp_send_queue.proofs.PlaceLemmas.{ranked-insert}
 use Rattle.dcsctp_send_queue.proofs.StreamLemmas.{IsOrdered-turns_of, length-turns_of}
 use Rattle.dcsctp_send_queue.proofs.streams.Streams.insert.Goals as goal
@@ -26,9 +26,14 @@ move_stream-requires c =
     let kept = ap length c.reserve.ensures.kept in
     let one = c.in_ok-reserve-2.ensures.room in
     let other = c.in_ok-reserve-2.ensures.more in
+    let third = c.in_ok-reserve-2.ensures.most in
+    let has_room : HaveRoom c.self.inside.items c.reserve-3.new.self = record {
+      ready = omega (arith, room, kept, one);
+      handed_out = omega (arith, room, kept, other);
+      under_way = omega (arith, room, kept, third);
+    } in
     holds_fresh c.self.inside.items _ _ c.self.invariant.ranked.ascending
-    (c.reserve-3.ensures.ready ∙ c.self.invariant.paused.ready) (c.reserve-3.ensures.handed_out ∙ c.self.invariant.paused.handed_out)
-    (omega (arith, room, kept, one)) (omega (arith, room, kept, other))
+    (kept_paused c.self.inside.items c.self.inside.paused c.reserve-3.new.self c.self.invariant.paused c.reserve-3.ensures.ready c.reserve-3.ensures.handed_out c.reserve-3.ensures.under_way has_room) has_room
 
 pub invariant_of-self-2 : goal.invariant_of-self-2
 invariant_of-self-2 c =
@@ -37,8 +42,13 @@ invariant_of-self-2 c =
     let kept = ap length c.reserve.ensures.kept in
     let one = c.in_ok-reserve-2.ensures.room in
     let other = c.in_ok-reserve-2.ensures.more in
-    let one_left = c.move_stream.ensures.has_room in
-    let other_left = c.move_stream.ensures.has_more in
+    let third = c.in_ok-reserve-2.ensures.most in
+    let has_room : HaveRoom c.self.inside.items c.reserve-3.new.self = record {
+      ready = omega (arith, room, kept, one);
+      handed_out = omega (arith, room, kept, other);
+      under_way = omega (arith, room, kept, third);
+    } in
+    let paused = kept_paused c.self.inside.items c.self.inside.paused c.reserve-3.new.self c.self.invariant.paused c.reserve-3.ensures.ready c.reserve-3.ensures.handed_out c.reserve-3.ensures.under_way has_room in
     let found : IsFound c.self.inside.items c.args.stream.id (Err c.args.place) = rw c.self.view_is c.requires in
     record {
       ranked = rw (c.in_ok-insert.ensures.ok, c.reserve.ensures.kept)
@@ -48,9 +58,7 @@ invariant_of-self-2 c =
           (omega (arith, room, more, kept)) c.move_turn.ensures.capacity);
       paused = rw (c.in_ok-insert.ensures.ok, c.reserve.ensures.kept)
           (paused_insert c.self.inside.items c.reserve-3.new.self c.move_stream.new.self c.args.place c.args.stream _ _ c.self.invariant.ranked.ascending found
-          (c.reserve-3.ensures.ready ∙ c.self.invariant.paused.ready) (c.reserve-3.ensures.handed_out ∙ c.self.invariant.paused.handed_out)
-          c.id-id.ensures c.pause_in_order-pause.ensures c.move_stream.ensures.ready c.move_stream.ensures.handed_out
-          (omega (arith, room, kept, one, one_left)) (omega (arith, room, kept, other, other_left)));
+          paused has_room c.id-id.ensures c.standing-stands.ensures c.move_stream.ensures);
       bytes = rw (c.in_ok-insert.ensures.ok, c.reserve.ensures.kept)
           (bytes_insert c.self.inside.items c.args.place c.args.stream c.self.invariant.bytes c.turn-turn.ensures.bytes found.0);
       can = rw (c.in_ok-insert.ensures.ok, c.reserve.ensures.kept)
