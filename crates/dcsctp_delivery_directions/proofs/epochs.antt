@@ -11,6 +11,8 @@ pub mod FlushSteps
 pub mod KeptEpochs
 pub mod SendingRuns
 pub mod KeptSteps
+pub mod SentBefore
+pub mod Window
 pub mod KeptRuns
 pub mod Behind
 pub mod AskedBounds

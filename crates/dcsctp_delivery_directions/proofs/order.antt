@@ -1,3 +1,4 @@
+pub mod EndedRead
 pub mod Rising
 pub mod Order
 pub mod Queue
@@ -19,6 +20,9 @@ pub mod Held
 pub mod PlainMissing
 pub mod PlainReading
 pub mod PlainHeld
+pub mod HeldParts
+pub mod WholeParts
+pub mod AllSent
 pub mod PlainLeaving
 pub mod PlainReady
 pub mod Follows

@@ -3,6 +3,7 @@ pub mod Queue
 pub mod Order
 pub mod Epochs
 pub mod Reading
+pub mod Parts
 pub mod Reach
 pub mod Incoming
 pub mod Gaps

@@ -70,7 +70,7 @@ module _ (first : ℕ) (direction : Direction) (small : first < 2 ^ 32) (zero_go
         next = waits.holds.next;
         queues = record {
           queue_holds = waits.holds.queue_holds;
-          cut = record { pieces = λ n f at. absurd (cc); rows = λ n f some at started. absurd (cc); ascends = λ m n f g less at at'. absurd (cc); climbs = λ m n f g less at at'. absurd (cc); shuts = λ n f at. absurd (cc) };
+          cut = record { pieces = λ n f at. absurd (cc); rows = λ n f some at started. absurd (cc); ascends = λ m n f g less at at'. absurd (cc); climbs = λ m n f g less at at'. absurd (cc); shuts = λ n f at. absurd (cc); ends = λ m n f g less at. absurd (cc) };
           flight = flight;
           pends = begun_pends direction.queues.transfer;
           marks = λ mark has. absurd has;

@@ -43,7 +43,7 @@ module _ (first : ℕ) (old : Direction) (s : Stands first old) (are : AreUnlimi
   pub step_keeps : (direction : Direction) (step : DirectionStep old direction) → KeepsAll old.beginning → InFlight new first direction.acknowledged direction.queues.transfer → IsKept new.log direction.queues.queue.streams place
   step_keeps _ (queues now sending fits some) keeps flight = kept_waits s.history new more old.queues.queue.streams (sending_queued now sending old.queues.queue).streams place grows (queueing_waits now sending old.queues.queue place) kept
   step_keeps _ (sets setting fits) keeps flight = kept_waits s.history new more old.queues.queue.streams (set_in_queue setting old.queues.queue).streams place grows (setting_waits setting old.queues.queue place) kept
-  step_keeps _ (prepares ids fit dropped) keeps flight = subst (λ (q : SendQueueState). IsKept new.log q.streams place) (sym (none_prepared old.beginning (length old.queued) ids old.queues.queue keeps dropped)) same_waits
+  step_keeps _ (prepares ids fit dropped) keeps flight = subst (λ (q : SendQueueState). IsKept new.log q.streams place) (sym (none_prepared old.beginning (length old.queued) old.queues.queue.streams ids old.queues.queue keeps dropped)) same_waits
   step_keeps _ (commits go_on) keeps flight = kept_waits s.history new more old.queues.queue.streams (queue_committed old.queues.queue).streams place grows (committing_waits old.queues.queue place) kept
   step_keeps _ (rolls_back unmixed) keeps flight = kept_waits s.history new more old.queues.queue.streams (queue_rolled_back old.queues.queue).streams place grows (rolling_back_waits old.queues.queue place) kept
   step_keeps _ (flushes e draft answers same no_data allowed) keeps flight =

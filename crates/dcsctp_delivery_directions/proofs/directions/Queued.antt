@@ -166,7 +166,7 @@ module _ (first : ℕ) (old : Direction) (s : Stands first old) where
       subst (λ (b : Bool). CountsByKind b s.history (queue_committed old.queues.queue).streams old.queues.queue.held) (sym is)
       (ssns_ended (subst (λ (b : Bool). CountsByKind b s.history old.queues.queue.streams old.queues.queue.held) is s.queues.numbers.counts)) in
       stepped_queue (queue_committed old.queues.queue) refl (committed_ways old.queues.queue) (λ id handed. absurd (committed_handed old.queues.queue id handed)) 0 (λ id handed. absurd (committed_handed old.queues.queue id handed))
-      (record { queue_holds = q.queue_holds; next = q.next; numbers = record { kinds = q.numbers.kinds; counts = counts; kept = q.numbers.kept; whole = q.numbers.whole } })
+      (record { queue_holds = q.queue_holds; next = q.next; numbers = record { kinds = q.numbers.kinds; counts = counts; kept = q.numbers.kept; whole = q.numbers.whole; rests = q.numbers.rests } })
 
   -- the receiver has performed the reset
   pub is_over : old.asking.out ≤ 1 → IsCleared s.history first old.tracker.cumulative old.queues.queue.streams old.reassembly → (id : ℕ) → is_handed_out (stream_named id old.queues.queue.streams).pause ≡ true

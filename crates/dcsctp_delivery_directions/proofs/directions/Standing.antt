@@ -110,6 +110,7 @@ cut_queued queued m history cut =
       ascends = cut.ascends;
       climbs = cut.climbs;
       shuts = cut.shuts;
+      ends = cut.ends;
     }
 
 pub counted_flight : (history : History) (first acknowledged : ℕ) (transfer : Option Transfer) → InFlight history first acknowledged transfer → length history.log ≡ acknowledged + tsns_in_flight transfer

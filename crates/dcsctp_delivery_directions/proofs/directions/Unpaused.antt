@@ -24,10 +24,10 @@ all_open [] each = tt
 all_open (stream ∷ streams) each = ((each stream.id).0 refl, all_open streams (λ id. (each id).1))
 
 -- Where the sender keeps all, it prepares no stream to be reset.
-pub none_prepared : (beginning : Beginning) (count : ℕ) (ids : List ℕ) (queue : SendQueueState) → KeepsAll beginning
-    → AllByRecursion (MayReset beginning count) ids → prepared_all ids queue ≡ queue
-none_prepared beginning count [] queue keeps may = refl
-none_prepared beginning count (id ∷ ids) queue keeps may = absurd (let no : true ≡ false = sym (keeps id) ∙ may.0.dropped in cc)
+pub none_prepared : (beginning : Beginning) (count : ℕ) (streams : List Stream) (ids : List ℕ) (queue : SendQueueState) → KeepsAll beginning
+    → AllByRecursion (MayReset beginning count streams) ids → prepared_all ids queue ≡ queue
+none_prepared beginning count streams [] queue keeps may = refl
+none_prepared beginning count streams (id ∷ ids) queue keeps may = absurd (let no : true ≡ false = sym (keeps id) ∙ may.0.dropped in cc)
 
 -- This stays so, where the sender keeps all.
 pub stays_unpaused : (old direction : Direction) → DirectionStep old direction → KeepsAll old.beginning → IsUnpaused old → IsUnpaused direction
@@ -35,7 +35,7 @@ stays_unpaused old _ (queues now sending fits some) keeps u = record { unpaused 
 stays_unpaused old _ (sets setting fits) keeps u = record { unpaused = setting_open setting old.queues.queue u.unpaused; unasked = u.unasked }
 stays_unpaused old _ (prepares ids fit dropped) keeps u =
     record {
-      unpaused = subst (λ (q : SendQueueState). AreOpen q.streams) (sym (none_prepared old.beginning (length old.queued) ids old.queues.queue keeps dropped)) u.unpaused;
+      unpaused = subst (λ (q : SendQueueState). AreOpen q.streams) (sym (none_prepared old.beginning (length old.queued) old.queues.queue.streams ids old.queues.queue keeps dropped)) u.unpaused;
       unasked = u.unasked;
     }
 stays_unpaused old _ (commits go_on) keeps u = record { unpaused = committing_open old.queues.queue u.unpaused; unasked = u.unasked }

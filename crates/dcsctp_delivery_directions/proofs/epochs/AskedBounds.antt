@@ -18,12 +18,12 @@ use Rattle.dcsctp_delivery_directions.proofs.epochs.Behind.{asked_keeps}
 abbrev pub AreAsked : Beginning → (ℕ → EpochBounds) → Type 0
 AreAsked beginning asked = (id place : ℕ) → (asked id).newest ≡ Some place → beginning.asks id place ≡ true
 
-may_named : (beginning : Beginning) (count id : ℕ) (ids : List ℕ) → AllByRecursion (MayReset beginning count) ids → is_named ids id ≡ true → beginning.asks id count ≡ true
-may_named beginning count id [] may named = absurd (cc)
-may_named beginning count id (other ∷ ids) may named =
+may_named : (beginning : Beginning) (count : ℕ) (streams : List Stream) (id : ℕ) (ids : List ℕ) → AllByRecursion (MayReset beginning count streams) ids → is_named ids id ≡ true → beginning.asks id count ≡ true
+may_named beginning count streams id [] may named = absurd (cc)
+may_named beginning count streams id (other ∷ ids) may named =
     elim (eqb_tells other id) [
       | inl e ↦ subst (λ (k : ℕ). beginning.asks k count ≡ true) e.1 may.0.asked
-      | inr e ↦ may_named beginning count id ids may.1 (rw e.0 at named)
+      | inr e ↦ may_named beginning count streams id ids may.1 (rw e.0 at named)
     ]
 
 first_of : (b c : Bool) → (b && c) ≡ true → b ≡ true
@@ -33,13 +33,13 @@ first_of false c is = absurd (cc)
 same_place : {one two : ℕ} → Some one ≡ Some two → one ≡ two
 same_place is = cc
 
-prepared_asked : (old : Direction) (ids : List ℕ) (asked : ℕ → EpochBounds) → AllByRecursion (MayReset old.beginning (length old.queued)) ids → AreAsked old.beginning asked
+prepared_asked : (old : Direction) (ids : List ℕ) (asked : ℕ → EpochBounds) → AllByRecursion (MayReset old.beginning (length old.queued) old.queues.queue.streams) ids → AreAsked old.beginning asked
     → AreAsked old.beginning (asked_with ids old.queues.queue.streams (length old.queued) asked)
 prepared_asked old ids asked may are id place = go (is_named ids id && is_open_pause (stream_named id old.queues.queue.streams).pause) refl
   where
     go : (b : Bool) → (is_named ids id && is_open_pause (stream_named id old.queues.queue.streams).pause) ≡ b → (if b then record (asked id) { newest = Some (length old.queued) } else asked id).newest ≡ Some place
         → old.beginning.asks id place ≡ true
-    go true both is = subst (λ (k : ℕ). old.beginning.asks id k ≡ true) (same_place is) (may_named old.beginning (length old.queued) id ids may (first_of (is_named ids id) _ both))
+    go true both is = subst (λ (k : ℕ). old.beginning.asks id k ≡ true) (same_place is) (may_named old.beginning (length old.queued) old.queues.queue.streams id ids may (first_of (is_named ids id) _ both))
     go false both is = are id place is
 
 ended_asked : (old : Direction) (asked : ℕ → EpochBounds) → AreAsked old.beginning asked → AreAsked old.beginning (asked_ended old.queues.queue.streams asked)

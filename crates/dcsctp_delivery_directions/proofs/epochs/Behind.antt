@@ -15,9 +15,9 @@ use Rattle.dcsctp_delivery_directions.specs.order.Reading.{Watch}
 use Rattle.dcsctp_delivery_directions.specs.epochs.Sending.{EpochBounds, asked_with}
 use Rattle.dcsctp_delivery_directions.specs.epochs.Directions.{asked_after}
 
--- All resets that were performed are watched, with when they are asked for.
-abbrev pub watch_of : (ℕ → ℕ → Bool) → (ℕ → List Cut) → ℕ → Watch
-watch_of asks cuts id = record { asks = asks id; cuts = cuts id }
+-- All resets that were performed are watched, with when they are asked for; and all that is received, if the window is small.
+abbrev pub watch_of : Bool → (ℕ → ℕ → Bool) → (ℕ → List Cut) → ℕ → Watch
+watch_of sized asks cuts id = record { asks = asks id; cuts = cuts id; knows_all = sized }
 
 -- The reset was asked for by the newest request of a stream that is handed out, or earlier. It is performed, and has no end yet.
 pub record IsPending (streams : List Stream) (id : ℕ) (asked : EpochBounds) (cut : Cut) : Type 0 where

@@ -1,10 +1,10 @@
 -- Each reset that was performed is a cut at a place where it was asked for.
-use Rattle.std.proofs.Common.{◌≡◌, ℕ, Bool, true, false, ◌<◌, ◌+◌, ◌^◌, List, [], ◌∷◌, length, refl, sym, ◌∙◌, ap, arith, subst, inl, inr}
-use Rattle.std.specs.Prelude.{Option, None, Some, if◌then◌else◌}
+use Rattle.std.proofs.Common.{◌≡◌, ℕ, Bool, true, false, ◌<◌, ◌+◌, ◌^◌, List, [], ◌∷◌, length, refl, sym, ◌∙◌, ap, arith, subst, inl, inr, nat_le, take}
+use Rattle.std.specs.Prelude.{Option, None, Some, if◌then◌else◌, ◌&&◌}
 use Rattle.dcsctp_spec.specs.types.declared.options.Options.{Options}
 use Rattle.dcsctp_spec.specs.endpoint.BegunResets.{BegunReset}
 use Rattle.dcsctp_spec.specs.queues.Reassembly.{ReassemblyState, names_stream, EndsDeferral}
-use Rattle.dcsctp_delivery_directions.specs.sending.Numbers.{stream_named}
+use Rattle.dcsctp_delivery_directions.specs.sending.Numbers.{stream_named, is_handed_out}
 use Rattle.dcsctp_delivery_directions.specs.sending.Log.{Message}
 use Rattle.dcsctp_delivery_directions.specs.sending.Places.{HasEntry}
 use Rattle.dcsctp_delivery_directions.specs.receiving.Clear.{IsOwn}
@@ -12,12 +12,12 @@ use Rattle.dcsctp_delivery_directions.specs.directions.Directions.{Beginning, Pe
 use Rattle.dcsctp_delivery_directions.proofs.directions.Calm.{none_has, none_asked}
 use Rattle.dcsctp_delivery_directions.proofs.directions.Losing.{same_beginning}
 use Rattle.dcsctp_delivery_directions.proofs.directions.Steps.{more_queued}
-use Rattle.dcsctp_delivery_directions.specs.order.Queue.{Cut, Separates, LeaveNoGapBefore}
+use Rattle.dcsctp_delivery_directions.specs.order.Queue.{Cut, Separates, LeaveNoGapBefore, HaveAllBefore}
 use Rattle.dcsctp_delivery_directions.proofs.order.PlainSteps.{same_kind}
 use Rattle.dcsctp_delivery_directions.specs.epochs.Sending.{EpochBounds, IsKnown}
 use Rattle.dcsctp_delivery_directions.specs.epochs.Directions.{asked_of, opened_of}
-use Rattle.dcsctp_delivery_directions.specs.epochs.Cuts.{cut_added, cuts_with, cuts_after, cuts_of, known_asks}
-use Rattle.dcsctp_delivery_directions.specs.epochs.Asked.{AreCutAsAsked}
+use Rattle.dcsctp_delivery_directions.specs.epochs.Cuts.{cut_added, cuts_with, cuts_after, cuts_of, known_asks, is_cut_whole, cuts_ended}
+use Rattle.dcsctp_delivery_directions.specs.epochs.Asked.{AreCutAsAsked, known_fulls}
 use Rattle.dcsctp_delivery_directions.proofs.epochs.AskedBounds.{AreAsked, asked_on}
 use Rattle.dcsctp_delivery_directions.proofs.epochs.Behind.{handed_shut}
 use Rattle.dcsctp_delivery_directions.proofs.epochs.Delivering.{DeliversSo}
@@ -60,18 +60,19 @@ early_on old _ (resets streams new unmixed some leaves) early none = absurd (non
 early_on old _ (takes message messages ready) early none = early (none_asked old _ (takes message messages ready) none)
 
 -- A cut of this index is there, at a place where the reset was asked for.
-record HasCut (beginning : Beginning) (cuts : List Cut) (id index : ℕ) : Type 0 where
+record HasCut (sized : Bool) (beginning : Beginning) (cuts : List Cut) (id index : ℕ) : Type 0 where
   cut : Cut
   has : HasEntry cut cuts
   index_is : cut.index ≡ index
+  whole_is : cut.is_whole ≡ is_cut_whole sized beginning id cut.place
   asked : beginning.asks id cut.place ≡ true
 
 -- So it is of each reset that was performed, on each stream that was open first.
-abbrev HaveCuts : (ℕ → Bool) → (ℕ → List Cut) → Direction → Type 0
-HaveCuts opened cuts direction = (id : ℕ) → opened id ≡ true → (reset : PerformedReset) → HasEntry reset direction.performed → names_stream reset.streams id ≡ true → HasCut direction.beginning (cuts id) id reset.index
+abbrev HaveCuts : Bool → (ℕ → Bool) → (ℕ → List Cut) → Direction → Type 0
+HaveCuts sized opened cuts direction = (id : ℕ) → opened id ≡ true → (reset : PerformedReset) → HasEntry reset direction.performed → names_stream reset.streams id ≡ true → HasCut sized direction.beginning (cuts id) id reset.index
 
-module _ (first : ℕ) (old : Direction) (small : first < 2 ^ 32) (opened : ℕ → Bool) (asked : ℕ → EpochBounds) (cuts : ℕ → List Cut) (d : DeliversSo first old opened asked cuts) (are : AreAsked old.beginning asked)
-    (interleaved : old.queues.queue.is_interleaved ≡ true) (have : HaveCuts opened cuts old) where
+module _ (sized : Bool) (first : ℕ) (old : Direction) (small : first < 2 ^ 32) (opened : ℕ → Bool) (asked : ℕ → EpochBounds) (cuts : ℕ → List Cut) (d : DeliversSo sized first old opened asked cuts) (are : AreAsked old.beginning asked)
+    (interleaved : old.queues.queue.is_interleaved ≡ true) (have : HaveCuts sized opened cuts old) where
   module _ (newest : BegunReset) (earlier : List BegunReset) (new : ReassemblyState) (asks : old.asking.requests ≡ newest ∷ earlier) (unknown : old.queues.queue.is_interleaved ≡ true → old.asking.is_performed ≡ false)
       (reached : is_reset_reached newest.reset old.tracker ≡ true) (own : IsOwn newest.reset old.reassembly.deferral) (leaves : EndsDeferral newest.reset.streams old.reassembly new) where
     abbrev index : ℕ
@@ -81,34 +82,47 @@ module _ (first : ℕ) (old : Direction) (small : first < 2 ^ 32) (opened : ℕ 
     known : (id : ℕ) → opened id ≡ true → names_stream newest.reset.streams id ≡ true → IsKnown (asked id)
     known id open_first names =
         d.goes.known interleaved id open_first
-        (handed_shut (stream_named id old.queues.queue.streams).pause (handed first old small opened asked cuts d newest earlier new asks unknown reached own leaves interleaved id names))
+        (handed_shut (stream_named id old.queues.queue.streams).pause (handed sized first old small opened asked cuts d newest earlier new asks unknown reached own leaves interleaved id names))
 
-    new_cut : (id : ℕ) → opened id ≡ true → names_stream newest.reset.streams id ≡ true → HasCut old.beginning (cuts_with newest.reset.streams index asked cuts id) id index
+    new_cut : (id : ℕ) → opened id ≡ true → names_stream newest.reset.streams id ≡ true → HasCut sized old.beginning (cuts_with newest.reset.streams index (is_cut_whole sized old.beginning) asked cuts id) id index
     new_cut id open_first names =
         let k = known id open_first names in
-        rw names (rw k.is (record { cut = record { index = index; place = k.place }; has = inl refl; index_is = refl; asked = are id k.place k.is }))
+        rw names (rw k.is (record { cut = record { index = index; place = k.place; is_whole = is_cut_whole sized old.beginning id k.place }; has = inl refl; index_is = refl; whole_is = refl; asked = are id k.place k.is }))
 
-    cut_kept : (id : ℕ) (cut : Cut) (b : Bool) (o : Option ℕ) → HasEntry cut (cuts id) → HasEntry cut (if b then cut_added index o (cuts id) else cuts id)
+    cut_kept : (id : ℕ) (cut : Cut) (b : Bool) (o : Option ℕ) → HasEntry cut (cuts id) → HasEntry cut (if b then cut_added index (is_cut_whole sized old.beginning id) o (cuts id) else cuts id)
     cut_kept id cut true None has = has
     cut_kept id cut true (Some place) has = inr has
     cut_kept id cut false o has = has
 
-    performing_cuts : HaveCuts opened (cuts_with newest.reset.streams index asked cuts) (record old { reassembly = new; performed = reset_performed newest.reset.streams old.read new ∷ old.performed })
+    performing_cuts : HaveCuts sized opened (cuts_with newest.reset.streams index (is_cut_whole sized old.beginning) asked cuts) (record old { reassembly = new; performed = reset_performed newest.reset.streams old.read new ∷ old.performed })
     performing_cuts id open_first reset has names =
         elim has [
           | inl e ↦
-              subst (λ (r : PerformedReset). HasCut old.beginning (cuts_with newest.reset.streams index asked cuts id) id r.index) (sym e)
+              subst (λ (r : PerformedReset). HasCut sized old.beginning (cuts_with newest.reset.streams index (is_cut_whole sized old.beginning) asked cuts id) id r.index) (sym e)
               (new_cut id open_first (subst (λ (r : PerformedReset). names_stream r.streams id ≡ true) e names))
           | inr t ↦
               (let c = have id open_first reset t names in
-              record { cut = c.cut; has = cut_kept id c.cut (names_stream newest.reset.streams id) (asked id).newest c.has; index_is = c.index_is; asked = c.asked })
+              record { cut = c.cut; has = cut_kept id c.cut (names_stream newest.reset.streams id) (asked id).newest c.has; index_is = c.index_is; whole_is = c.whole_is; asked = c.asked })
         ]
 
-  cuts_on : (direction : Direction) (step : DirectionStep old direction) → HaveCuts opened (cuts_after old direction step asked cuts) direction
+  abbrev ended_index : ℕ
+  ended_index = length old.read + length old.reassembly.incoming.ready
+
+  ending_cuts : HaveCuts sized opened (cuts_ended old.queues.queue.streams ended_index (is_cut_whole sized old.beginning) asked cuts) old
+  ending_cuts id open_first reset has names =
+      let c = have id open_first reset has names in
+      record { cut = c.cut; has = go c.cut c.has (is_handed_out (stream_named id old.queues.queue.streams).pause) (asked id).newest; index_is = c.index_is; whole_is = c.whole_is; asked = c.asked }
+    where
+      go : (cut : Cut) → HasEntry cut (cuts id) → (b : Bool) (o : Option ℕ) → HasEntry cut (if b then cut_added ended_index (is_cut_whole sized old.beginning id) o (cuts id) else cuts id)
+      go cut was true None = was
+      go cut was true (Some place) = inr was
+      go cut was false o = was
+
+  cuts_on : (direction : Direction) (step : DirectionStep old direction) → HaveCuts sized opened (cuts_after sized old direction step asked cuts) direction
   cuts_on _ (queues now sending fits some) = have
   cuts_on _ (sets setting fits) = have
   cuts_on _ (prepares ids fit kept) = have
-  cuts_on _ (commits go_on) = have
+  cuts_on _ (commits go_on) = ending_cuts
   cuts_on _ (rolls_back unmixed) = have
   cuts_on _ (flushes e draft answers same no_data allowed) = have
   cuts_on _ (resends now room transfer left tsns chunks emission known sends fill contents) = have
@@ -138,20 +152,20 @@ none_performed options first size _ (begins direction b) none = b.performed
 none_performed options first size _ (goes_on old direction run step) none = early_on old direction step (none_performed options first size old run) none
 none_performed options first size _ (starts old queued below beginning run awaited fit waits idle begun) none = none_performed options first size old run (ap (λ (x : Asking). x.requests) awaited.asking)
 
-record AsksSo (direction : Direction) (opened : ℕ → Bool) (asked : ℕ → EpochBounds) (cuts : ℕ → List Cut) : Type 0 where
+record AsksSo (sized : Bool) (direction : Direction) (opened : ℕ → Bool) (asked : ℕ → EpochBounds) (cuts : ℕ → List Cut) : Type 0 where
   are : AreAsked direction.beginning asked
-  have : direction.queues.queue.is_interleaved ≡ true → HaveCuts opened cuts direction
+  have : direction.queues.queue.is_interleaved ≡ true → HaveCuts sized opened cuts direction
 
-asks_new : (direction : Direction) (opened : ℕ → Bool) → direction.performed ≡ [] → AsksSo direction opened (λ id. record { newest = None; ended = 0 }) (λ id. [])
-asks_new direction opened none =
+asks_new : (sized : Bool) (direction : Direction) (opened : ℕ → Bool) → direction.performed ≡ [] → AsksSo sized direction opened (λ id. record { newest = None; ended = 0 }) (λ id. [])
+asks_new sized direction opened none =
     record {
       are = λ id place is. absurd (cc);
       have = λ interleaved id open_first reset has. absurd (subst (HasEntry reset) none has);
     }
 
 run_asks : (options : Options) (first size : ℕ) (direction : Direction) → first < 2 ^ 32 → length direction.queued < 2 ^ 64 → (run : DirectionRun options first size direction)
-    → AsksSo direction (opened_of options first size direction run) (asked_of options first size direction run) (cuts_of options first size direction run)
-run_asks options first size _ small few (begins direction b) = asks_new direction _ b.performed
+    → AsksSo (nat_le size (2 ^ 63)) direction (opened_of options first size direction run) (asked_of options first size direction run) (cuts_of options first size direction run)
+run_asks options first size _ small few (begins direction b) = asks_new (nat_le size (2 ^ 63)) direction _ b.performed
 run_asks options first size _ small few (goes_on old direction run step) =
     let fewer : length old.queued < 2 ^ 64 = omega (arith, few, more_queued old direction step) in
     let a = run_asks options first size old small fewer run in
@@ -160,11 +174,11 @@ run_asks options first size _ small few (goes_on old direction run step) =
       are = asked_on old direction step (asked_of options first size old run) a.are;
       have = λ interleaved. (
           let was : old.queues.queue.is_interleaved ≡ true = sym (same_kind old direction step) ∙ interleaved in
-          cuts_on first old small (opened_of options first size old run) (asked_of options first size old run) (cuts_of options first size old run) d a.are was (a.have was) direction step
+          cuts_on (nat_le size (2 ^ 63)) first old small (opened_of options first size old run) (asked_of options first size old run) (cuts_of options first size old run) d a.are was (a.have was) direction step
           );
     }
 run_asks options first size _ small few (starts old queued below beginning run awaited fit waits none begun) =
-    asks_new (record old { queued = queued; queues = below; beginning = beginning }) _ (none_performed options first size old run (ap (λ (x : Asking). x.requests) awaited.asking))
+    asks_new (nat_le size (2 ^ 63)) (record old { queued = queued; queues = below; beginning = beginning }) _ (none_performed options first size old run (ap (λ (x : Asking). x.requests) awaited.asking))
 
 -- Where the numbers begin at 0 each stream was open first.
 opened_so : (options : Options) (first size : ℕ) (direction : Direction) (run : DirectionRun options first size direction) → direction.beginning.from_zero ≡ true → (id : ℕ) → opened_of options first size direction run id ≡ true
@@ -176,8 +190,14 @@ opened_so options first size _ (starts old queued below beginning run awaited fi
 whole_before : (beginning : Beginning) (queued : List Message) (id end : ℕ) (places : List ℕ) → beginning.has_all ≡ true → LeaveNoGapBefore (known_asks beginning id) queued id end places → LeaveNoGapBefore (beginning.asks id) queued id end places
 whole_before beginning queued id end places whole = subst (λ (b : Bool). LeaveNoGapBefore (λ (count : ℕ). if b then beginning.asks id count else true) queued id end places → LeaveNoGapBefore (beginning.asks id) queued id end places) (sym whole) (λ gap. gap)
 
+whole_all : (beginning : Beginning) (queued : List Message) (id index : ℕ) (cut : Cut) (places : List ℕ) → beginning.has_all ≡ true → cut.index ≡ index → HaveAllBefore (known_asks beginning id) queued id cut places
+    → HaveAllBefore (beginning.asks id) queued id (record { index = index; place = cut.place; is_whole = true }) places
+whole_all beginning queued id index cut places whole same all free place on below one =
+    subst (λ (k : ℕ). HasEntry place (take k places)) same
+    (all free place on below (λ count from to. ap (λ (b : Bool). if b then beginning.asks id count else true) whole ∙ one count from to))
+
 pub directions_cut_as_asked : (options : Options) (first size : ℕ) (direction : Direction) → DirectionRun options first size direction → first < 2 ^ 32 → assigned_count direction < 2 ^ 31 → length direction.queued < 2 ^ 64
-    → direction.queues.queue.is_interleaved ≡ true → direction.beginning.from_zero ≡ true → AreCutAsAsked direction.beginning.has_all direction.beginning.asks direction.performed direction.queued direction.read
+    → direction.queues.queue.is_interleaved ≡ true → direction.beginning.from_zero ≡ true → AreCutAsAsked direction.beginning.has_all direction.beginning.asks (known_fulls size direction.beginning) direction.performed direction.queued direction.read
 directions_cut_as_asked options first size direction run small little few interleaved from =
     let d = directions_deliver_by_epoch options first size direction run small little few interleaved from in
     let a = run_asks options first size direction small few run in
@@ -188,8 +208,11 @@ directions_cut_as_asked options first size direction run small little few interl
           record {
             place = c.cut.place;
             asked = c.asked;
+            before = d.before id c.cut c.has;
             separates = subst (λ (k : ℕ). Separates direction.queued id k c.cut.place d.ordered.delivered.places) c.index_is (d.epochs id c.cut c.has);
             no_gap = λ whole. whole_before direction.beginning direction.queued id c.cut.place d.ordered.delivered.places whole (d.no_gaps id c.cut c.has);
+            all = λ whole full low. whole_all direction.beginning direction.queued id reset.index c.cut d.ordered.delivered.places whole c.index_is
+                (d.complete id c.cut c.has (c.whole_is ∙ ap (λ (b : Bool). b && known_fulls size direction.beginning id c.cut.place) whole ∙ full) (let same = c.index_is in omega (arith, low, same)));
           }
           );
       no_gap = λ whole id. whole_before direction.beginning direction.queued id (length direction.queued) d.ordered.delivered.places whole (d.no_gap id);

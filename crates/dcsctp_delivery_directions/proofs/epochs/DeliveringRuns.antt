@@ -1,11 +1,11 @@
 -- With interleaving what is read of a stream is separated by its resets, as it was queued.
-use Rattle.std.proofs.Common.{◌≡◌, ℕ, Bool, true, false, ◌<◌, ◌≤◌, ◌%◌, ◌^◌, List, [], ◌∷◌, ◌++◌, length, refl, sym, ◌∙◌, ap, arith, subst, inl, inr}
+use Rattle.std.proofs.Common.{◌≡◌, ℕ, Bool, true, false, ◌<◌, ◌≤◌, ◌%◌, ◌^◌, List, [], ◌∷◌, ◌++◌, length, refl, sym, ◌∙◌, ap, arith, subst, inl, inr, ◌+◌, ◌-◌, nat_le, length-append}
 use Rattle.std.specs.Prelude.{◌⊎◌, Option, None, Some, if◌then◌else◌}
 use Rattle.dcsctp_spec.specs.types.declared.options.Options.{Options}
 use Rattle.dcsctp_spec.specs.queues.Incoming.{stream_on}
 use Rattle.dcsctp_spec.specs.queues.OwnResets.{queue_committed}
 use Rattle.dcsctp_delivery_directions.specs.sending.Log.{Message, History, sent_messages}
-use Rattle.dcsctp_delivery_directions.specs.sending.Numbers.{is_handed_out, stream_named}
+use Rattle.dcsctp_delivery_directions.specs.sending.Numbers.{is_handed_out, stream_named, AreFloorsAtZero}
 use Rattle.dcsctp_delivery_directions.specs.sending.Queueing.{floors_raised}
 use Rattle.dcsctp_delivery_directions.proofs.sending.Chunks.{kinds_of}
 use Rattle.dcsctp_delivery_directions.proofs.sending.Counting.{told}
@@ -16,6 +16,7 @@ use Rattle.dcsctp_delivery_directions.specs.receiving.Ready.{AreDistinct, WereQu
 use Rattle.dcsctp_delivery_directions.specs.directions.Directions.{Direction, assigned_count, Asking, all_ended, BeginsDirection, DirectionRun, begins, goes_on, starts, DirectionStep, queues, sets, prepares, commits, rolls_back, flushes, resends, resends_nothing, speaks, asks_again, renews, turns_aside, acknowledges, loses, receives, forwards, receives_interleaved, forwards_interleaved, tracks, defers, performs, performs_earlier, resets, takes}
 use Rattle.dcsctp_delivery_directions.proofs.directions.Continuing.{begun_history, started_history}
 use Rattle.dcsctp_delivery_directions.proofs.directions.Directions.{begun_stands, started_stands}
+use Rattle.dcsctp_delivery_directions.proofs.directions.Reached.{acknowledgements_are_true}
 use Rattle.dcsctp_delivery_directions.proofs.directions.Standing.{Stands}
 use Rattle.dcsctp_delivery_directions.proofs.directions.Steps.{more_queued}
 use Rattle.dcsctp_delivery_directions.specs.order.Incoming.{IncomingOrdered}
@@ -28,60 +29,119 @@ use Rattle.dcsctp_delivery_directions.proofs.order.Directions.{raised_zero}
 use Rattle.dcsctp_delivery_directions.proofs.order.Follows.{counts_from_zero}
 use Rattle.dcsctp_delivery_directions.proofs.order.Incoming.{quiet_where, separated_where, no_gap_where, ordered_was_read}
 use Rattle.dcsctp_delivery_directions.proofs.order.Quiet.{Arrives}
-use Rattle.dcsctp_delivery_directions.proofs.order.Separated.{front_separate}
+use Rattle.dcsctp_delivery_directions.proofs.order.Separated.{front_separate, taken_front}
 use Rattle.dcsctp_delivery_directions.proofs.order.Steps.{committing_arrives}
 use Rattle.dcsctp_delivery_directions.specs.epochs.Sending.{EpochBounds, newest_ended, asked_ended}
 use Rattle.dcsctp_delivery_directions.specs.epochs.Directions.{asked_after, asked_of, opened_of}
-use Rattle.dcsctp_delivery_directions.specs.epochs.Cuts.{cuts_after, cuts_of, known_asks, AreDeliveredByEpoch}
+use Rattle.dcsctp_delivery_directions.specs.epochs.Cuts.{cuts_after, cuts_of, known_asks, AreDeliveredByEpoch, cuts_ended, cut_added, is_cut_whole}
 use Rattle.dcsctp_delivery_directions.proofs.epochs.KeptRuns.{keeps_further, goes_in_turn}
 use Rattle.dcsctp_delivery_directions.proofs.epochs.SendingRuns.{goes_further, goes_ends}
 use Rattle.dcsctp_delivery_directions.proofs.epochs.Behind.{watch_of, IsPending, AreBehind}
-use Rattle.dcsctp_delivery_directions.proofs.epochs.Delivering.{DeliversSo, delivers_new, further, further_same}
-use Rattle.dcsctp_delivery_directions.proofs.epochs.Performing.{added, added_behind, recut, sent_leaves}
+use Rattle.dcsctp_delivery_directions.proofs.epochs.Delivering.{DeliversSo, delivers_new, further, further_same, IsEndedCut}
+use Rattle.dcsctp_delivery_directions.proofs.epochs.Window.{window_of}
+use Rattle.dcsctp_delivery_directions.proofs.epochs.Performing.{added, added_behind, added_grows, recut, sent_leaves, newest_separates, handed_halts, were_length}
+use Rattle.std.proofs.lemmas.Bool.Decides.{nat_tests}
+use Rattle.dcsctp_delivery_directions.proofs.directions.Receiving.{known_log, known_kinds}
+use Rattle.dcsctp_delivery_directions.proofs.order.EndedRead.{ended_are_read}
 
 -- ---- a reset ends
 
-module _ (first : ℕ) (old : Direction) (small : first < 2 ^ 32) (opened : ℕ → Bool) (asked : ℕ → EpochBounds) (cuts : ℕ → List Cut) (d : DeliversSo first old opened asked cuts) where
+module _ (sized : Bool) (first : ℕ) (old : Direction) (small : first < 2 ^ 32) (opened : ℕ → Bool) (asked : ℕ → EpochBounds) (cuts : ℕ → List Cut) (d : DeliversSo sized first old opened asked cuts) where
   abbrev stands : Stands first old
   stands = d.goes.stands
 
-  ended_behind : old.queues.queue.is_interleaved ≡ true → AreBehind (queue_committed old.queues.queue).streams (asked_ended old.queues.queue.streams asked) cuts
+  abbrev index : ℕ
+  index = length old.read + length old.reassembly.incoming.ready
+
+  abbrev ended_cuts : ℕ → List Cut
+  ended_cuts = cuts_ended old.queues.queue.streams index (is_cut_whole sized old.beginning) asked cuts
+
+  ended_behind : old.queues.queue.is_interleaved ≡ true → AreBehind (queue_committed old.queues.queue).streams (asked_ended old.queues.queue.streams asked) ended_cuts
   ended_behind interleaved id cut has =
-      inl (go (is_handed_out (stream_named id old.queues.queue.streams).pause) refl (asked id).newest refl (d.behind interleaved id cut has))
+      inl (go (is_handed_out (stream_named id old.queues.queue.streams).pause) refl (asked id).newest refl has)
     where
       up : (place : ℕ) → (asked id).newest ≡ Some place → (asked id).ended ≤ place
       up place is = ((d.goes.by_epoch interleaved id).newest place is).0
 
-      go : (b : Bool) → is_handed_out (stream_named id old.queues.queue.streams).pause ≡ b → (o : Option ℕ) → (asked id).newest ≡ o → (cut.place ≤ (asked id).ended) ⊎ IsPending old.queues.queue.streams id (asked id) cut
-          → cut.place ≤ (if b then newest_ended (asked id) else asked id).ended
-      go false shut o is behind = elim behind [ inl low ↦ low | inr p ↦ absurd (let no : true ≡ false = sym p.handed ∙ shut in cc) ]
-      go true handed' None is behind =
+      by_newest : (o : Option ℕ) → (asked id).newest ≡ o → (cut.place ≤ (asked id).ended) ⊎ IsPending old.queues.queue.streams id (asked id) cut → cut.place ≤ (newest_ended (record (asked id) { newest = o })).ended
+      by_newest None is behind =
           elim behind [
-            | inl low ↦ rw is low
+            | inl low ↦ low
             | inr p ↦ absurd (let no : None ≡ Some p.place = sym is ∙ p.newest in cc)
           ]
-      go true handed' (Some place) is behind =
+      by_newest (Some place) is behind =
           elim behind [
-            | inl low ↦ rw is (let high = up place is in omega (arith, low, high))
-            | inr p ↦ rw is (let both : Some place ≡ Some p.place = sym is ∙ p.newest in let same : place ≡ p.place = cc in let below = p.below in omega (arith, below, same))
+            | inl low ↦ (let high = up place is in omega (arith, low, high))
+            | inr p ↦ (let both : Some place ≡ Some p.place = sym is ∙ p.newest in let same : place ≡ p.place = cc in let below = p.below in omega (arith, below, same))
           ]
 
-  ends : (few : length old.queued < 2 ^ 64) (go_on : old.queues.queue.is_interleaved ≡ true → (old.asking.out ≤ 1) × (old.asking.is_performed ≡ true))
-      → DeliversSo first (record old { queues = record old.queues { queue = queue_committed old.queues.queue }; asking = all_ended old.asking }) opened (asked_ended old.queues.queue.streams asked) cuts
-  ends few go_on =
+      go : (b : Bool) → is_handed_out (stream_named id old.queues.queue.streams).pause ≡ b → (o : Option ℕ) → (asked id).newest ≡ o → HasEntry cut (if b then cut_added index (is_cut_whole sized old.beginning id) o (cuts id) else cuts id)
+          → cut.place ≤ (if b then newest_ended (record (asked id) { newest = o }) else asked id).ended
+      go false shut o is has' = elim (d.behind interleaved id cut has') [ inl low ↦ low | inr p ↦ absurd (let no : true ≡ false = sym p.handed ∙ shut in cc) ]
+      go true handed None is has' = by_newest None is (d.behind interleaved id cut has')
+      go true handed (Some place) is has' =
+          elim has' [
+            | inl e ↦ (let same : cut.place ≡ place = ap (λ (c : Cut). c.place) e in omega (arith, same))
+            | inr t ↦ by_newest (Some place) is (d.behind interleaved id cut t)
+          ]
+
+  -- the reset that has ended last is a cut
+  ends_cut : (id : ℕ) → ((asked_ended old.queues.queue.streams asked id).ended ≡ 0) ⊎ IsEndedCut (is_cut_whole sized old.beginning id) (ended_cuts id) (asked_ended old.queues.queue.streams asked id).ended
+  ends_cut id = go (is_handed_out (stream_named id old.queues.queue.streams).pause) (asked id).newest
+    where
+      go : (b : Bool) (o : Option ℕ) → ((if b then newest_ended (record (asked id) { newest = o }) else asked id).ended ≡ 0)
+          ⊎ IsEndedCut (is_cut_whole sized old.beginning id) (if b then cut_added index (is_cut_whole sized old.beginning id) o (cuts id) else cuts id) (if b then newest_ended (record (asked id) { newest = o }) else asked id).ended
+      go false o = d.ended_cut id
+      go true None = d.ended_cut id
+      go true (Some place) = inr (record { cut = record { index = index; place = place; is_whole = is_cut_whole sized old.beginning id place }; has = inl refl; place_is = refl; whole_is = refl })
+
+  shut_same : (id : ℕ) → is_handed_out (stream_named id old.queues.queue.streams).pause ≡ false → ended_cuts id ≡ cuts id
+  shut_same id shut = ap (λ (b : Bool). if b then cut_added index (is_cut_whole sized old.beginning id) (asked id).newest (cuts id) else cuts id) shut
+
+  module _ (before : length stands.history.log < 2 ^ 31) (interleaved : old.queues.queue.is_interleaved ≡ true) (from : old.beginning.from_zero ≡ true) (one : old.asking.out ≤ 1) (performed : old.asking.is_performed ≡ true) (window : sized ≡ true → old.reassembly.max_size ≤ 2 ^ 63) where
+    abbrev arrived : Arrives (watch_of sized (known_asks old.beginning) cuts) first stands.history old.queued old.read old.tracker old.reassembly old.queues.queue.streams
+    arrived = d.arrives before interleaved from
+
+    counts_of : (id : ℕ) → CountsFromZero stands.history id
+    counts_of id = counts_from_zero old.queued stands.history id stands.queues.cut (known_log first old small stands before) (known_kinds first old small stands interleaved) (d.zero interleaved from id)
+
+    -- it separates what was queued before
+    ends_separate : (got : List ℕ) → got ≡ arrived.received.got → (base : ℕ) (o : IncomingOrdered (watch_of sized (known_asks old.beginning) cuts) (sent_messages old.queued stands.history) arrived.quiet got base arrived.places old.reassembly.incoming) (id : ℕ)
+        → is_handed_out (stream_named id old.queues.queue.streams).pause ≡ true → AreSeparated (known_asks old.beginning id) old.queued id (ended_cuts id) (arrived.places ++ o.holds.places)
+    ends_separate got same base o id handed =
+        subst (λ (b : Bool). AreSeparated (known_asks old.beginning id) old.queued id (if b then cut_added index (is_cut_whole sized old.beginning id) (asked id).newest (cuts id) else cuts id) (arrived.places ++ o.holds.places)) (sym handed) (go (asked id).newest refl)
+      where
+        was : AreSeparated (known_asks old.beginning id) old.queued id (cuts id) (arrived.places ++ o.holds.places)
+        was = separated_where (watch_of sized (known_asks old.beginning) cuts id) old.queued stands.history (arrived.quiet id) id (arrived.places ++ o.holds.places) (o.holds.waits id) (stream_on id old.reassembly.incoming.streams) (o.order id (counts_of id))
+
+        go : (newest : Option ℕ) → (asked id).newest ≡ newest → AreSeparated (known_asks old.beginning id) old.queued id (cut_added index (is_cut_whole sized old.beginning id) newest (cuts id)) (arrived.places ++ o.holds.places)
+        go None is = was
+        go (Some place) is =
+            newest_separates sized first old opened asked cuts d interleaved id got (arrived.places ++ o.holds.places) place index is (handed_halts sized first old opened asked cuts d interleaved id place handed is)
+            (length-append arrived.places o.holds.places
+            ∙ (let one = were_length old.queued arrived.places old.read arrived.were in let two = were_length old.queued o.holds.places old.reassembly.incoming.ready o.holds.were_queued in omega (arith, one, two))) o.holds.spent was
+            (no_gap_where (watch_of sized (known_asks old.beginning) cuts id) old.queued stands.history (arrived.quiet id) id (arrived.places ++ o.holds.places) (o.holds.waits id) (stream_on id old.reassembly.incoming.streams) (counts_of id)
+            (goes_in_turn first old small opened asked d.goes d.keeps interleaved id) (o.order id (counts_of id)))
+            (λ knows. ended_are_read (watch_of sized (known_asks old.beginning) cuts) first old small stands before interleaved one performed (d.zero interleaved from) (λ id known. window known) arrived got same base o id handed knows)
+
+  ends : (few : length old.queued < 2 ^ 64) (go_on : old.queues.queue.is_interleaved ≡ true → (old.asking.out ≤ 1) × (old.asking.is_performed ≡ true)) → (length stands.history.log < 2 ^ 31 → sized ≡ true → old.reassembly.max_size ≤ 2 ^ 63)
+      → DeliversSo sized first (record old { queues = record old.queues { queue = queue_committed old.queues.queue }; asking = all_ended old.asking }) opened (asked_ended old.queues.queue.streams asked) ended_cuts
+  ends few go_on window =
       record {
         goes = goes_further first old small opened asked d.goes _ few (commits go_on);
         keeps = keeps_further first old small opened asked d.goes d.keeps _ few (commits go_on);
         named = λ mark earlier is some. absurd (omega (arith, some));
         unended = λ interleaved unknown. absurd (let clash : true ≡ false = sym (go_on interleaved).1 ∙ unknown in cc);
         zero = λ interleaved from id.
-            subst (λ (h : History). h.floors id false % 2 ^ 32 ≡ 0) (sym (raises interleaved))
-            (raised_zero (is_handed_out (stream_named id old.queues.queue.streams).pause) (stands.history.floors id false) (length stands.history.log) (d.zero interleaved from id));
+            subst (λ (h : History). AreFloorsAtZero h.floors id) (sym (raises interleaved))
+            (raised_zero (is_handed_out (stream_named id old.queues.queue.streams).pause) (stands.history.floors id false) (stands.history.floors id true) (length stands.history.log) (d.zero interleaved from id));
         behind = ended_behind;
+        ended_cut = ends_cut;
         arrives = λ little interleaved from. (
             let before : length stands.history.log < 2 ^ 31 = subst (λ (h : History). length h.log < 2 ^ 31) (raises interleaved) little in
-            subst (λ (h : History). Arrives (watch_of (known_asks old.beginning) cuts) first h old.queued old.read old.tracker old.reassembly (queue_committed old.queues.queue).streams) (sym (raises interleaved))
-            (committing_arrives (watch_of (known_asks old.beginning) cuts) first old small stands (goes_in_turn first old small opened asked d.goes d.keeps interleaved) before interleaved (go_on interleaved).0 (go_on interleaved).1 (d.zero interleaved from) (d.arrives before interleaved from))
+            subst (λ (h : History). Arrives (watch_of sized (known_asks old.beginning) ended_cuts) first h old.queued old.read old.tracker old.reassembly (queue_committed old.queues.queue).streams) (sym (raises interleaved))
+            (committing_arrives (watch_of sized (known_asks old.beginning) cuts) first old small stands (goes_in_turn first old small opened asked d.goes d.keeps interleaved) before interleaved (go_on interleaved).0 (go_on interleaved).1 (d.zero interleaved from) (d.arrives before interleaved from) ended_cuts shut_same
+            (ends_separate before interleaved from (go_on interleaved).0 (go_on interleaved).1 (window before)))
             );
       }
     where
@@ -91,9 +151,9 @@ module _ (first : ℕ) (old : Direction) (small : first < 2 ^ 32) (opened : ℕ 
 
   -- ---- each step
 
-  delivers_on : (direction : Direction) (few : length direction.queued < 2 ^ 64) (step : DirectionStep old direction) → DeliversSo first direction opened (asked_after old direction step asked) (cuts_after old direction step asked cuts)
-  delivers_on _ few (commits go_on) = ends few go_on
-  delivers_on _ few (rolls_back unmixed) =
+  delivers_on : (direction : Direction) (few : length direction.queued < 2 ^ 64) (step : DirectionStep old direction) → (length stands.history.log < 2 ^ 31 → sized ≡ true → ((first + (2 ^ 32 - 1)) % 2 ^ 32 + old.acknowledged ≤ old.tracker.cumulative) × (old.reassembly.max_size ≤ 2 ^ 63)) → DeliversSo sized first direction opened (asked_after old direction step asked) (cuts_after sized old direction step asked cuts)
+  delivers_on _ few (commits go_on) covered = ends few go_on (λ before known. (covered before known).1)
+  delivers_on _ few (rolls_back unmixed) covered =
       record {
         goes = goes_further first old small opened asked d.goes _ few (rolls_back unmixed);
         keeps = keeps_further first old small opened asked d.goes d.keeps _ few (rolls_back unmixed);
@@ -101,52 +161,59 @@ module _ (first : ℕ) (old : Direction) (small : first < 2 ^ 32) (opened : ℕ 
         unended = λ interleaved. absurd (let clash : true ≡ false = sym interleaved ∙ unmixed in cc);
         zero = λ interleaved. absurd (let clash : true ≡ false = sym interleaved ∙ unmixed in cc);
         behind = λ interleaved. absurd (let clash : true ≡ false = sym interleaved ∙ unmixed in cc);
+        ended_cut = d.ended_cut;
         arrives = λ little interleaved. absurd (let clash : true ≡ false = sym interleaved ∙ unmixed in cc);
       }
-  delivers_on _ few (performs newest earlier new asks unknown reached own leaves) =
-      further first old small opened asked cuts d _ few (performs newest earlier new asks unknown reached own leaves) (added first old small opened asked cuts d newest earlier new asks unknown reached own leaves) tt (added_behind first old small opened asked cuts d newest earlier new asks unknown reached own leaves)
-      (recut first old small opened asked cuts d newest earlier new asks unknown reached own leaves)
-  delivers_on _ few (performs_earlier newest earlier new asks unknown reached own leaves) =
-      further first old small opened asked cuts d _ few (performs_earlier newest earlier new asks unknown reached own leaves) (added first old small opened asked cuts d newest earlier new asks unknown reached own leaves) tt (added_behind first old small opened asked cuts d newest earlier new asks unknown reached own leaves)
-      (recut first old small opened asked cuts d newest earlier new asks unknown reached own leaves)
-  delivers_on _ few (queues now sending fits some) = further_same first old small opened asked cuts d _ few (queues now sending fits some) tt
-  delivers_on _ few (sets setting fits) = further_same first old small opened asked cuts d _ few (sets setting fits) tt
-  delivers_on _ few (prepares ids fit kept) = further_same first old small opened asked cuts d _ few (prepares ids fit kept) tt
-  delivers_on _ few (flushes e draft answers same no_data allowed) = further_same first old small opened asked cuts d _ few (flushes e draft answers same no_data allowed) tt
-  delivers_on _ few (resends now room transfer left tsns chunks emission known sends are contents) = further_same first old small opened asked cuts d _ few (resends now room transfer left tsns chunks emission known sends are contents) tt
-  delivers_on _ few (resends_nothing now room transfer left tsns known sends) = further_same first old small opened asked cuts d _ few (resends_nothing now room transfer left tsns known sends) tt
-  delivers_on _ few (speaks emission no_data) = further_same first old small opened asked cuts d _ few (speaks emission no_data) tt
-  delivers_on _ few (asks_again emission begun was contents) = further_same first old small opened asked cuts d _ few (asks_again emission begun was contents) tt
-  delivers_on _ few (renews emission newest earlier number asks out contents) = further_same first old small opened asked cuts d _ few (renews emission newest earlier number asks out contents) tt
-  delivers_on _ few (turns_aside transfer new known same) = further_same first old small opened asked cuts d _ few (turns_aside transfer new known same) tt
-  delivers_on _ few (acknowledges now sack transfer new known valid reached does) = further_same first old small opened asked cuts d _ few (acknowledges now sack transfer new known valid reached does) tt
-  delivers_on _ few (loses now transfer known) = further_same first old small opened asked cuts d _ few (loses now transfer known) tt
-  delivers_on _ few (receives emission chunk theirs new was holds some same same' does) = further_same first old small opened asked cuts d _ few (receives emission chunk theirs new was holds some same same' does) tt
-  delivers_on _ few (forwards emission tsn streams theirs new was holds same same' does) = further_same first old small opened asked cuts d _ few (forwards emission tsn streams theirs new was holds same same' does) tt
-  delivers_on _ few (receives_interleaved emission chunk theirs new was holds some same same' does) = further_same first old small opened asked cuts d _ few (receives_interleaved emission chunk theirs new was holds some same same' does) tt
-  delivers_on _ few (forwards_interleaved emission tsn streams theirs new was holds same same' does) = further_same first old small opened asked cuts d _ few (forwards_interleaved emission tsn streams theirs new was holds same same' does) tt
-  delivers_on _ few (tracks new cumulative ranges) = further_same first old small opened asked cuts d _ few (tracks new cumulative ranges) tt
-  delivers_on _ few (defers last_tsn streams some) = further_same first old small opened asked cuts d _ few (defers last_tsn streams some) tt
-  delivers_on _ few (resets streams new unmixed some leaves) = further_same first old small opened asked cuts d _ few (resets streams new unmixed some leaves) tt
-  delivers_on _ few (takes message messages ready) = further_same first old small opened asked cuts d _ few (takes message messages ready) tt
+  delivers_on _ few (performs newest earlier new asks unknown reached own leaves) covered =
+      further sized first old small opened asked cuts d _ few (performs newest earlier new asks unknown reached own leaves) (added sized first old small opened asked cuts d newest earlier new asks unknown reached own leaves) (added_grows sized first old small opened asked cuts d newest earlier new asks unknown reached own leaves) tt (added_behind sized first old small opened asked cuts d newest earlier new asks unknown reached own leaves)
+      (λ before interleaved from. recut sized first old small opened asked cuts d newest earlier new asks unknown reached own leaves before interleaved from (λ known. (covered before known).1))
+  delivers_on _ few (performs_earlier newest earlier new asks unknown reached own leaves) covered =
+      further sized first old small opened asked cuts d _ few (performs_earlier newest earlier new asks unknown reached own leaves) (added sized first old small opened asked cuts d newest earlier new asks unknown reached own leaves) (added_grows sized first old small opened asked cuts d newest earlier new asks unknown reached own leaves) tt (added_behind sized first old small opened asked cuts d newest earlier new asks unknown reached own leaves)
+      (λ before interleaved from. recut sized first old small opened asked cuts d newest earlier new asks unknown reached own leaves before interleaved from (λ known. (covered before known).1))
+  delivers_on _ few (queues now sending fits some) covered = further_same sized first old small opened asked cuts d _ few (queues now sending fits some) tt covered
+  delivers_on _ few (sets setting fits) covered = further_same sized first old small opened asked cuts d _ few (sets setting fits) tt covered
+  delivers_on _ few (prepares ids fit kept) covered = further_same sized first old small opened asked cuts d _ few (prepares ids fit kept) tt covered
+  delivers_on _ few (flushes e draft answers same no_data allowed) covered = further_same sized first old small opened asked cuts d _ few (flushes e draft answers same no_data allowed) tt covered
+  delivers_on _ few (resends now room transfer left tsns chunks emission known sends are contents) covered = further_same sized first old small opened asked cuts d _ few (resends now room transfer left tsns chunks emission known sends are contents) tt covered
+  delivers_on _ few (resends_nothing now room transfer left tsns known sends) covered = further_same sized first old small opened asked cuts d _ few (resends_nothing now room transfer left tsns known sends) tt covered
+  delivers_on _ few (speaks emission no_data) covered = further_same sized first old small opened asked cuts d _ few (speaks emission no_data) tt covered
+  delivers_on _ few (asks_again emission begun was contents) covered = further_same sized first old small opened asked cuts d _ few (asks_again emission begun was contents) tt covered
+  delivers_on _ few (renews emission newest earlier number asks out contents) covered = further_same sized first old small opened asked cuts d _ few (renews emission newest earlier number asks out contents) tt covered
+  delivers_on _ few (turns_aside transfer new known same) covered = further_same sized first old small opened asked cuts d _ few (turns_aside transfer new known same) tt covered
+  delivers_on _ few (acknowledges now sack transfer new known valid reached does) covered = further_same sized first old small opened asked cuts d _ few (acknowledges now sack transfer new known valid reached does) tt covered
+  delivers_on _ few (loses now transfer known) covered = further_same sized first old small opened asked cuts d _ few (loses now transfer known) tt covered
+  delivers_on _ few (receives emission chunk theirs new was holds some same same' does) covered = further_same sized first old small opened asked cuts d _ few (receives emission chunk theirs new was holds some same same' does) tt covered
+  delivers_on _ few (forwards emission tsn streams theirs new was holds same same' does) covered = further_same sized first old small opened asked cuts d _ few (forwards emission tsn streams theirs new was holds same same' does) tt covered
+  delivers_on _ few (receives_interleaved emission chunk theirs new was holds some same same' does) covered = further_same sized first old small opened asked cuts d _ few (receives_interleaved emission chunk theirs new was holds some same same' does) tt covered
+  delivers_on _ few (forwards_interleaved emission tsn streams theirs new was holds same same' does) covered = further_same sized first old small opened asked cuts d _ few (forwards_interleaved emission tsn streams theirs new was holds same same' does) tt covered
+  delivers_on _ few (tracks new cumulative ranges) covered = further_same sized first old small opened asked cuts d _ few (tracks new cumulative ranges) tt covered
+  delivers_on _ few (defers last_tsn streams some) covered = further_same sized first old small opened asked cuts d _ few (defers last_tsn streams some) tt covered
+  delivers_on _ few (resets streams new unmixed some leaves) covered = further_same sized first old small opened asked cuts d _ few (resets streams new unmixed some leaves) tt covered
+  delivers_on _ few (takes message messages ready) covered = further_same sized first old small opened asked cuts d _ few (takes message messages ready) tt covered
 
 -- ---- a run
 
 pub run_delivers : (options : Options) (first size : ℕ) (direction : Direction) → first < 2 ^ 32 → length direction.queued < 2 ^ 64 → (run : DirectionRun options first size direction)
-    → DeliversSo first direction (opened_of options first size direction run) (asked_of options first size direction run) (cuts_of options first size direction run)
+    → DeliversSo (nat_le size (2 ^ 63)) first direction (opened_of options first size direction run) (asked_of options first size direction run) (cuts_of options first size direction run)
 run_delivers options first size _ small few (begins direction b) =
     let w = waits_from direction.queued direction.queues.queue b.queues in
     let b' : BeginsDirection options first size direction = record b { queues = w.waits } in
-    delivers_new first direction (begun_stands options first size direction small b') w.waits.floors (begun_history options first size direction small b') (ap (λ (a : Asking). a.out) b.asking) (ap (λ (a : Asking). a.requests) b.asking)
+    delivers_new (nat_le size (2 ^ 63)) first direction (begun_stands options first size direction small b') w.waits.floors (begun_history options first size direction small b') (ap (λ (a : Asking). a.out) b.asking) (ap (λ (a : Asking). a.requests) b.asking)
     (λ from. w.zero (b.begun.zero from)) b.begun.whole
 run_delivers options first size _ small few (goes_on old direction run step) =
-    delivers_on first old small (opened_of options first size old run) (asked_of options first size old run) (cuts_of options first size old run) (run_delivers options first size old small (omega (arith, few, more_queued old direction step)) run) direction few step
+    delivers_on (nat_le size (2 ^ 63)) first old small (opened_of options first size old run) (asked_of options first size old run) (cuts_of options first size old run) (run_delivers options first size old small (omega (arith, few, more_queued old direction step)) run) direction few step
+    (λ little known. (
+    let count = (run_delivers options first size old small (omega (arith, few, more_queued old direction step)) run).goes.stands.count in
+    let limit : size ≤ 2 ^ 63 = grind (arith, nat_tests, known) in
+    let window = window_of options first size old run in
+    (acknowledgements_are_true options first size old run small (omega (arith, little, count)) (omega (arith, few, more_queued old direction step)), omega (arith, limit, window))
+    ))
 run_delivers options first size _ small few (starts old queued below beginning run awaited fit waits idle begun) =
     let none_queued : length old.queued ≡ 0 = ap (λ (l : List Message). length l) awaited.queued in
     let d = run_delivers options first size old small (omega (arith, none_queued)) run in
     let w = waits_from queued below.queue waits in
     let direction : Direction = record old { queued = queued; queues = below; beginning = beginning } in
-    delivers_new first direction (started_stands first old queued below beginning d.goes.stands awaited small fit w.waits idle) w.waits.floors (started_history first old queued below beginning d.goes.stands awaited small fit w.waits idle)
+    delivers_new (nat_le size (2 ^ 63)) first direction (started_stands first old queued below beginning d.goes.stands awaited small fit w.waits idle) w.waits.floors (started_history first old queued below beginning d.goes.stands awaited small fit w.waits idle)
     (ap (λ (a : Asking). a.out) awaited.asking) (ap (λ (a : Asking). a.requests) awaited.asking) (λ from. w.zero (begun.zero from)) begun.whole
 
 -- What was read is the front of what became ready.
@@ -178,29 +245,31 @@ directions_deliver_by_epoch options first size direction run small little few in
     go s a.quiet a.received.got a.places a.were a.once counts (goes_in_turn first direction small _ _ d.goes d.keeps interleaved) a.received.holds
   where
     read : (s : Stands first direction) (quiet : ℕ → Bool) (got : List ℕ) (base : ℕ) (places : List ℕ) → WereQueued direction.queued places direction.read → AreDistinct places → ((id : ℕ) → CountsFromZero s.history id) → ((id : ℕ) → SendsEpochsInTurn (known_asks direction.beginning id) direction.queued s.history id)
-        → IncomingOrdered (watch_of (known_asks direction.beginning) (cuts_of options first size direction run)) (sent_messages direction.queued s.history) quiet got base places direction.reassembly.incoming → AreDeliveredByEpoch (known_asks direction.beginning) (cuts_of options first size direction run) direction.queued direction.read
+        → IncomingOrdered (watch_of (nat_le size (2 ^ 63)) (known_asks direction.beginning) (cuts_of options first size direction run)) (sent_messages direction.queued s.history) quiet got base places direction.reassembly.incoming → AreDeliveredByEpoch (known_asks direction.beginning) (cuts_of options first size direction run) direction.queued direction.read
     read s quiet got base places were once counts turns o =
         record {
           ordered = record {
             delivered = record { places = places; were_queued = were; once = once };
-            in_order = λ id. ordered_was_read (watch_of (known_asks direction.beginning) (cuts_of options first size direction run)) direction.queued s.history quiet got base places direction.reassembly.incoming id (counts id) o;
+            in_order = λ id. ordered_was_read (watch_of (nat_le size (2 ^ 63)) (known_asks direction.beginning) (cuts_of options first size direction run)) direction.queued s.history quiet got base places direction.reassembly.incoming id (counts id) o;
           };
           epochs = λ id cut has. front_separate direction.queued id cut.index cut.place places o.holds.places (separated id cut has).separates;
           no_gaps = λ id cut has. before_front (known_asks direction.beginning id) direction.queued id cut.place places o.holds.places (in_order id) (separated id cut has).no_gap;
+          before = λ id cut has. (separated id cut has).before;
+          complete = λ id cut has whole low free place on below one. taken_front place cut.index places o.holds.places low ((separated id cut has).all whole free place on below one);
           no_gap = λ id. before_front (known_asks direction.beginning id) direction.queued id (length direction.queued) places o.holds.places (in_order id)
               (sent_leaves (known_asks direction.beginning id) direction.queued s.history id (places ++ o.holds.places) s.queues.cut
-              (no_gap_where (watch_of (known_asks direction.beginning) (cuts_of options first size direction run) id) direction.queued s.history (quiet id) id (places ++ o.holds.places) (o.holds.waits id) (stream_on id direction.reassembly.incoming.streams) (counts id) (turns id) (o.order id (counts id)))
+              (no_gap_where (watch_of (nat_le size (2 ^ 63)) (known_asks direction.beginning) (cuts_of options first size direction run) id) direction.queued s.history (quiet id) id (places ++ o.holds.places) (o.holds.waits id) (stream_on id direction.reassembly.incoming.streams) (counts id) (turns id) (o.order id (counts id)))
               (length direction.queued) (λ n f at on. at_below f.place f.message direction.queued (s.queues.cut.pieces n f at).at));
         }
       where
         in_order : (id : ℕ) → ComeInOrder direction.queued id (places ++ o.holds.places)
-        in_order id = (quiet_where (watch_of (known_asks direction.beginning) (cuts_of options first size direction run) id) direction.queued s.history (quiet id) id (places ++ o.holds.places) (o.holds.waits id) (stream_on id direction.reassembly.incoming.streams) (o.order id (counts id))).in_order
+        in_order id = (quiet_where (watch_of (nat_le size (2 ^ 63)) (known_asks direction.beginning) (cuts_of options first size direction run) id) direction.queued s.history (quiet id) id (places ++ o.holds.places) (o.holds.waits id) (stream_on id direction.reassembly.incoming.streams) (o.order id (counts id))).in_order
 
         separated : (id : ℕ) → AreSeparated (known_asks direction.beginning id) direction.queued id (cuts_of options first size direction run id) (places ++ o.holds.places)
         separated id =
-            separated_where (watch_of (known_asks direction.beginning) (cuts_of options first size direction run) id) direction.queued s.history (quiet id) id (places ++ o.holds.places) (o.holds.waits id) (stream_on id direction.reassembly.incoming.streams) (o.order id (counts id))
+            separated_where (watch_of (nat_le size (2 ^ 63)) (known_asks direction.beginning) (cuts_of options first size direction run) id) direction.queued s.history (quiet id) id (places ++ o.holds.places) (o.holds.waits id) (stream_on id direction.reassembly.incoming.streams) (o.order id (counts id))
 
     go : (s : Stands first direction) (quiet : ℕ → Bool) (got places : List ℕ) → WereQueued direction.queued places direction.read → AreDistinct places → ((id : ℕ) → CountsFromZero s.history id) → ((id : ℕ) → SendsEpochsInTurn (known_asks direction.beginning id) direction.queued s.history id)
-        → ReassemblesInOrder (watch_of (known_asks direction.beginning) (cuts_of options first size direction run)) (sent_messages direction.queued s.history) quiet first got places direction.reassembly.incoming → AreDeliveredByEpoch (known_asks direction.beginning) (cuts_of options first size direction run) direction.queued direction.read
+        → ReassemblesInOrder (watch_of (nat_le size (2 ^ 63)) (known_asks direction.beginning) (cuts_of options first size direction run)) (sent_messages direction.queued s.history) quiet first got places direction.reassembly.incoming → AreDeliveredByEpoch (known_asks direction.beginning) (cuts_of options first size direction run) direction.queued direction.read
     go s quiet got places were once counts turns (none_handled none' last empty') = read s quiet [] 0 places were once counts turns (empty' 0)
     go s quiet got places were once counts turns (some_handled base is holds) = read s quiet got base places were once counts turns holds

@@ -10,7 +10,7 @@ use Rattle.dcsctp_spec.specs.types.declared.sending.Pause.TheVariants.{Open, Pau
 use Rattle.dcsctp_spec.specs.types.declared.sending.Turn.{Turn}
 use Rattle.dcsctp_spec.specs.types.queues.SendStreams.{Waiting, Stream, stream_at, front_of, may_send_on, turn_of, unused_stream}
 use Rattle.dcsctp_spec.specs.queues.SendQueue.{SendQueueState}
-use Rattle.dcsctp_spec.specs.queues.Sending.{progress_after, next_progress, stream_held_after, released_queue, is_kept_whole}
+use Rattle.dcsctp_spec.specs.queues.Sending.{progress_after, next_progress, stream_held_after, released_queue, is_kept_whole, reserve_begun}
 use Rattle.dcsctp_delivery_directions.specs.sending.Places.{HasEntry}
 use Rattle.dcsctp_delivery_directions.specs.sending.Numbers.{stream_named}
 use Rattle.dcsctp_delivery_directions.specs.sending.Pieces.{unbegun}
@@ -76,8 +76,8 @@ one_number a b same = ap number same
     number (Some s) = s.0
 
 -- a stream that is held still is another one
-pub released_other : (id other : ℕ) (queue : SendQueueState) → (released_queue id queue).held ≡ held_on other → (queue.held ≡ held_on other) × (other ≢ id)
-released_other id other queue is = go queue.held refl
+pub released_other : (id reserve other : ℕ) (queue : SendQueueState) → (released_queue id reserve queue).held ≡ held_on other → (queue.held ≡ held_on other) × (other ≢ id)
+released_other id reserve other queue is = go queue.held refl
   where
     go : (held : Option StreamId) → queue.held ≡ held → (queue.held ≡ held_on other) × (other ≢ id)
     go None e = absurd (let none : ◌≡◌ {A = Option StreamId} None (held_on other) = rw e at is in cc)
@@ -218,11 +218,11 @@ module _ (P W : ℕ → Type 0) (a id : ℕ) where
         held_then true other e = sym (one_number under_way.stream_id.0 other e) ∙ sym own
         held_then false other e = absurd (cc)
 
-    last_fed : Produces place message under_way (drop 1 (stream_at old.streams place).messages) None old new → new.held ≡ (released_queue under_way.stream_id.0 old).held → FeedsQueue new
+    last_fed : Produces place message under_way (drop 1 (stream_at old.streams place).messages) None old new → new.held ≡ (released_queue under_way.stream_id.0 (reserve_begun (length message.payload) under_way) old).held → FeedsQueue new
     last_fed p held =
         record {
           ways = changed_ways place old new within p.one (λ u is. absurd (let none : None ≡ Some u = sym p.progress_is ∙ is in cc))
-              (λ other is. (let still = released_other under_way.stream_id.0 other old (sym held ∙ is) in (λ at. absurd (still.1 (at ∙ own)), λ ne. still.0))) fed.ways;
+              (λ other is. (let still = released_other under_way.stream_id.0 (reserve_begun (length message.payload) under_way) other old (sym held ∙ is) in (λ at. absurd (still.1 (at ∙ own)), λ ne. still.0))) fed.ways;
           feeds = lost_feeds place old.streams new.streams p.one p.messages_are p.progress_is p.pause fed.feeds;
         }
 

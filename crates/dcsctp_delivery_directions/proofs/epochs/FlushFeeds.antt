@@ -8,7 +8,7 @@ use Rattle.dcsctp_spec.specs.types.declared.progress.Change.{Change}
 use Rattle.dcsctp_spec.specs.types.declared.progress.Change.TheVariants.{SendAgain, Abandon}
 use Rattle.dcsctp_spec.specs.types.declared.ids.StreamId.{StreamId}
 use Rattle.dcsctp_spec.specs.types.declared.sending.UnderWay.{UnderWay}
-use Rattle.dcsctp_spec.specs.types.queues.SendStreams.{Waiting, Stream, without_front, unused_stream, stream_at}
+use Rattle.dcsctp_spec.specs.types.queues.SendStreams.{Waiting, Stream, without_front, unused_stream, stream_at, front_of}
 use Rattle.dcsctp_spec.specs.endpoint.Event.{Event}
 use Rattle.dcsctp_spec.specs.endpoint.Endpoint.{Endpoint}
 use Rattle.dcsctp_spec.specs.endpoint.BegunResets.{BegunReset, streams_within, request_contents, queue_requesting, retransmission_begun}
@@ -20,7 +20,7 @@ use Rattle.dcsctp_spec.specs.queues.Items.{Item, changed_between}
 use Rattle.dcsctp_spec.specs.queues.Outstanding.{OutstandingState, header, next_tsn}
 use Rattle.dcsctp_spec.specs.queues.OwnResets.{ready_streams}
 use Rattle.dcsctp_spec.specs.queues.SendQueue.{SendQueueState}
-use Rattle.dcsctp_spec.specs.queues.Sending.{Fragment, Drops, none as no_drops_yet, more as drops_one, Chooses, released_queue, without_rest, queue_after_producing, DiscardsNamed}
+use Rattle.dcsctp_spec.specs.queues.Sending.{Fragment, Drops, none as no_drops_yet, more as drops_one, Chooses, released_queue, without_rest, queue_after_producing, DiscardsNamed, reserve_begun}
 use Rattle.dcsctp_spec.specs.queues.Transfer.{Transfer, EndpointQueues, may_give, is_idle}
 use Rattle.dcsctp_delivery_directions.proofs.epochs.Moving.{like_handing}
 use Rattle.dcsctp_delivery_directions.proofs.epochs.Feeding.{IsOpenOrGoing, turn_runs, KnowsWays, progress_named, released_other, changed_ways, named_there, like_ways, like_feeds, lost_feeds, FeedsQueue, produced_may, produced_fed}
@@ -34,6 +34,7 @@ use Rattle.dcsctp_delivery_directions.proofs.sending.Numbers.{old_idle}
 use Rattle.dcsctp_delivery_directions.proofs.sending.ProducedHeld.{held_on}
 use Rattle.dcsctp_delivery_directions.proofs.sending.Streams.{within_streams}
 use Rattle.dcsctp_delivery_directions.proofs.sending.Stages.{changed_at, changed_length, at_last}
+use Rattle.dcsctp_spec_lemmas.proofs.ChoosingLemmas.{chosen_turn}
 
 -- the pause of a stream whose oldest message is dropped
 without_pause : (place sent : ℕ) (message : Waiting) (queue : SendQueueState) → place < length queue.streams → (stream_at (without_rest place sent message queue).streams place).pause ≡ (stream_at queue.streams place).pause
@@ -106,9 +107,12 @@ module _ (P W : ℕ → Type 0) (a id from : ℕ) where
       )) earlier
 
   -- the stream that is chosen runs
-  chosen_runs : (now : ℕ) (old queue : SendQueueState) (place : ℕ) (message : Waiting) (held : Option StreamId) → old.held ≡ held → Chooses now old held queue place message → place < length queue.streams → KnowsWays queue → IsOpenOrGoing (stream_at queue.streams place)
-  chosen_runs now old queue place message None none chooses within ways = turn_runs (stream_at queue.streams place) chooses.0.turn chooses.0.is
-  chosen_runs now old queue place message (Some h) is chooses within ways =
+  chosen_runs : (now max : ℕ) (old queue : SendQueueState) (place : ℕ) (message : Waiting) (held : Option StreamId) → old.held ≡ held → Chooses now max old held queue place
+      → front_of (stream_at queue.streams place).messages ≡ Some message → place < length queue.streams → KnowsWays queue → IsOpenOrGoing (stream_at queue.streams place)
+  chosen_runs now max old queue place message None none chooses front within ways =
+      let turn = chosen_turn now max queue place message chooses front in
+      turn_runs (stream_at queue.streams place) turn.0 turn.1
+  chosen_runs now max old queue place message (Some h) is chooses front within ways =
       let some = ways.held h.0 (ap (λ (q : SendQueueState). q.held) chooses.0 ∙ is) in
       let there : stream_named h.0 queue.streams ≡ stream_at queue.streams place = ap (λ (k : ℕ). stream_named k queue.streams) (sym chooses.1) ∙ named_there place queue ways within in
       record { may = inr (ap (λ (s : Stream). is_some s.under_way) (sym there) ∙ some) }
@@ -133,13 +137,13 @@ module _ (P W : ℕ → Type 0) (a id from : ℕ) where
       go false discards ends = subst (λ (q : SendQueueState). FeedsOn q rest.outstanding.items) (sym discards.1) (subst (λ (o : OutstandingState). FeedsOn old.waiting o.items) (sym ends) f)
       go true discards ends =
           let within : discards.named.place < length old.waiting.streams = within_streams old.waiting.streams discards.named.place discards.named.message discards.named.front in
-          let left : SendQueueState = released_queue last.fragment.stream (without_rest discards.named.place discards.named.under_way.sent discards.named.message old.waiting) in
+          let left : SendQueueState = released_queue last.fragment.stream (reserve_begun (length discards.named.message.payload) discards.named.under_way) (without_rest discards.named.place discards.named.under_way.sent discards.named.message old.waiting) in
           subst (λ (q : SendQueueState). FeedsOn q rest.outstanding.items) (sym discards.left)
           (subst (λ (o : OutstandingState). FeedsOn left o.items) (sym ends.grows)
           (record {
             fed = without_fed discards.named.place discards.named.under_way.sent discards.named.message old.waiting left within refl
                 (λ other is. (
-                let still = released_other last.fragment.stream other (without_rest discards.named.place discards.named.under_way.sent discards.named.message old.waiting) is in
+                let still = released_other last.fragment.stream (reserve_begun (length discards.named.message.payload) discards.named.under_way) other (without_rest discards.named.place discards.named.under_way.sent discards.named.message old.waiting) is in
                 (λ at. still.1 (at ∙ discards.named.is), still.0)
                 )) f.fed;
             flies = flies_with old.queue.outstanding.items ends.item (λ on some. absurd (some (ap (λ (x : Fragment). x.payload) ends.is_end.is))) f.flies;
@@ -177,7 +181,7 @@ module _ (P W : ℕ → Type 0) (a id from : ℕ) where
     left_fed = dropped now old.waiting sends.takes.drops.events sends.takes.queue sends.takes.drops.drops f.fed
 
     runs : IsOpenOrGoing (stream_at sends.takes.queue.streams sends.takes.place)
-    runs = chosen_runs now old.waiting sends.takes.queue sends.takes.place sends.takes.message old.waiting.held refl sends.takes.chosen within left_fed.ways
+    runs = chosen_runs now max old.waiting sends.takes.queue sends.takes.place sends.takes.message old.waiting.held refl sends.takes.chosen sends.takes.front within left_fed.ways
 
     own : (stream_at sends.takes.queue.streams sends.takes.place).id ≡ sends.takes.under_way.stream_id.0
     own = progress_named sends.takes.message (stream_at sends.takes.queue.streams sends.takes.place) (left_fed.ways.named sends.takes.place) ∙ ap (λ (u : UnderWay). u.stream_id.0) (sym sends.takes.come)

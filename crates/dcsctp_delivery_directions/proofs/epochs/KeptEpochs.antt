@@ -87,7 +87,7 @@ module _ (queued : List Message) (history : History) (queue : SendQueueState) (i
       let same : w.message ≡ message = cc in
       w.is.stream ∙ ap (λ (m : Message). m.stream) same ∙ on
 
-  waits_on : (waits : StillWaits queue.streams place) → HasEntry waits.waiting (stream_named id queue.streams).messages
+  pub waits_on : (waits : StillWaits queue.streams place) → HasEntry waits.waiting (stream_named id queue.streams).messages
   waits_on waits = waits_named id waits.q queue.streams waits.waiting holds.distinct (its_stream waits) waits.has
 
 still_named : (id place : ℕ) (streams : List Stream) (w : Waiting) → HasEntry w (stream_named id streams).messages → w.message_id ≡ place → StillWaits streams place

@@ -21,6 +21,7 @@ use Rattle.dcsctp_delivery_directions.proofs.epochs.Named.{open_named}
 use Rattle.dcsctp_delivery_directions.proofs.epochs.KeptEpochs.{KeepsEpoch}
 use Rattle.dcsctp_delivery_directions.proofs.epochs.SendingRuns.{GoesByEpoch, goes_further, goes_stands}
 use Rattle.dcsctp_delivery_directions.proofs.epochs.KeptSteps.{ArePast, stepped_keeps, stepped_past}
+use Rattle.dcsctp_delivery_directions.proofs.epochs.SentBefore.{SendsBefore, stepped_sends}
 
 -- ---- what holds throughout
 
@@ -30,6 +31,7 @@ pub record KeepsEpochs (first : ℕ) (direction : Direction) (opened : ℕ → B
   pub ends_were : EndsWereAsked direction.beginning asked
   pub opens_all : direction.beginning.has_all ≡ true → (id : ℕ) → opened id ≡ true
   pub keeps_each : direction.queues.queue.is_interleaved ≡ true → direction.beginning.has_all ≡ true → (id : ℕ) → KeepsEpoch direction.queued s.history direction.queues.queue id (asked id)
+  pub sent_each : direction.queues.queue.is_interleaved ≡ true → direction.beginning.has_all ≡ true → (id : ℕ) → SendsBefore direction.queued s.history.log (direction.beginning.empties id) id (asked id)
   pub past_each : direction.queues.queue.is_interleaved ≡ true → direction.beginning.has_all ≡ true → (id : ℕ) → ArePast s.history id (asked id)
 
 pub keeps_new : (first : ℕ) (direction : Direction) (s : Stands first direction) (floors : ℕ → Bool → ℕ) → s.history ≡ new_history floors → (direction.beginning.has_all ≡ true → (id : ℕ) → AllWaitOn id direction.queued direction.queues.queue.streams)
@@ -41,6 +43,7 @@ keeps_new first direction s floors is all =
       ends_were = λ id. inl refl;
       opens_all = λ whole id. open_named id direction.queues.queue.streams (all whole id).unpaused;
       keeps_each = λ interleaved whole id place message at on free low. inl (inr ((all whole id).waits place message at on));
+      sent_each = λ interleaved whole id count newest. absurd (cc);
       past_each = λ interleaved whole id n f at. absurd (let none : at_place n [] ≡ Some (Some f) = ap (λ (l : List Slot). at_place n l) (sym empty) ∙ at in cc);
     }
 
@@ -58,6 +61,11 @@ module _ (first : ℕ) (old : Direction) (small : first < 2 ^ 32) (opened : ℕ 
         keeps_each = λ interleaved whole id. (
             let was : old.queues.queue.is_interleaved ≡ true = sym kind ∙ interleaved in
             stepped_keeps id first old small g.stands asked (g.by_epoch was id) (k.keeps_each was (sym (ap (λ (b : Beginning). b.has_all) same) ∙ whole) id) direction few step interleaved
+            );
+        sent_each = λ interleaved whole id. (
+            let was : old.queues.queue.is_interleaved ≡ true = sym kind ∙ interleaved in
+            let whole' : old.beginning.has_all ≡ true = sym (ap (λ (b : Beginning). b.has_all) same) ∙ whole in
+            stepped_sends id first old small g.stands asked (g.by_epoch was id) (k.keeps_each was whole' id) (k.sent_each was whole' id) direction few step interleaved
             );
         past_each = λ interleaved whole id. (
             let was : old.queues.queue.is_interleaved ≡ true = sym kind ∙ interleaved in

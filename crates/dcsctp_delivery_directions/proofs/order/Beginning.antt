@@ -1,12 +1,12 @@
 -- Where an association begins whose numbers are 0, the floors of ordered messages are those of 0.
-use Rattle.std.proofs.Common.{◌≡◌, ℕ, Bool, true, false, ◌≤◌, ◌+◌, ◌%◌, ◌^◌, List, [], ◌∷◌, refl, sym, ◌∙◌, ap, arith, subst}
+use Rattle.std.proofs.Common.{◌≡◌, ℕ, Bool, true, false, ◌≤◌, ◌+◌, ◌%◌, ◌^◌, List, [], ◌∷◌, refl, sym, ◌∙◌, ap, arith, subst, ◌-◌, ◌<◌, ◌*◌}
 use Rattle.std.specs.Prelude.{not, Option, None, Some, is_some, if◌then◌else◌}
 use Rattle.dcsctp_spec_lemmas.specs.types.declared.ids.StreamId.{StreamId}
 use Rattle.dcsctp_spec_lemmas.specs.types.declared.sending.UnderWay.{UnderWay}
 use Rattle.dcsctp_spec_lemmas.specs.types.queues.SendStreams.{Waiting, Stream, front_of, stream_at}
 use Rattle.dcsctp_spec_lemmas.specs.spec.queues.SendQueue.{SendQueueState}
 use Rattle.dcsctp_delivery_directions.specs.sending.Log.{Message, new_history}
-use Rattle.dcsctp_delivery_directions.specs.sending.Numbers.{stream_named, next_mid, LastIs, CountsMessages, CountsTurns, CountsSsns, CountsByKind, IsFromStart}
+use Rattle.dcsctp_delivery_directions.specs.sending.Numbers.{stream_named, next_mid, LastIs, CountsMessages, CountsTurns, CountsSsns, CountsByKind, IsFromStart, AreFloorsClose, AreFloorsAtZero, IsBegunUnder}
 use Rattle.dcsctp_delivery_directions.specs.sending.Pieces.{Going, IsGoing, HoldsQueued}
 use Rattle.dcsctp_delivery_directions.specs.sending.Queueing.{QueueWaits}
 use Rattle.dcsctp_delivery_directions.proofs.sending.StreamsNamed.{named_place}
@@ -45,7 +45,7 @@ none_ordered streams rest id = go (stream_named id streams).under_way refl (stre
 module _ (streams : List Stream) (floors : ℕ → Bool → ℕ) (c : CountsMessages (new_history floors) streams) where
   -- ordered messages are counted from the next one, if none is under way
   floors_of : ℕ → Bool → ℕ
-  floors_of id true = floors id true
+  floors_of id true = if has_ordered_rest (stream_named id streams) then floors id true else floors id true % 2 ^ 32
   floors_of id false = if has_ordered_rest (stream_named id streams) then floors id false else next_mid false (stream_named id streams)
 
   counts_of : ℕ → Bool → ℕ
@@ -63,7 +63,11 @@ module _ (streams : List Stream) (floors : ℕ → Bool → ℕ) (c : CountsMess
 
   counts_next : (id : ℕ) (is_unordered : Bool) → next_mid is_unordered (stream_named id streams) % 2 ^ 32 ≡ (floors_of id is_unordered + counts_of id is_unordered) % 2 ^ 32
   unfolding floors_of counts_of
-  counts_next id true = c.next id true
+  counts_next id true = go (has_ordered_rest (stream_named id streams))
+    where
+      go : (b : Bool) → next_mid true (stream_named id streams) % 2 ^ 32 ≡ ((if b then floors id true else floors id true % 2 ^ 32) + c.counts id true) % 2 ^ 32
+      go true = c.next id true
+      go false = (let next = c.next id true in omega (arith, next))
   counts_next id false = go (has_ordered_rest (stream_named id streams))
     where
       go : (b : Bool) → next_mid false (stream_named id streams) % 2 ^ 32 ≡ ((if b then floors id false else next_mid false (stream_named id streams)) + (if b then c.counts id false else 0)) % 2 ^ 32
@@ -76,25 +80,39 @@ module _ (streams : List Stream) (floors : ℕ → Bool → ℕ) (c : CountsMess
   last_of id None is last = tt
   last_of id (Some u) is last =
       let same = kept last.waiting.is_unordered refl in
-      let floor = same.0 in
+      let (less, floor, whole) = same.0 in
       let count = same.1 in
+      let low = last.from in
       record {
         waiting = last.waiting;
         front = last.front;
-        mid = last.mid;
-        is = last.is;
-        from = (let from = last.from in omega (arith, from, floor));
-        last = (let at = last.last in omega (arith, at, floor, count));
-        came = last.came;
+        mid = last.mid - less;
+        is = (let at = last.is in omega (arith, at, floor, whole, low));
+        from = omega (arith, low, floor);
+        last = (let at = last.last in omega (arith, at, floor, count, low));
+        came = λ f e. absurd (cc);
       }
     where
-      kept : (b : Bool) → last.waiting.is_unordered ≡ b → (floors_of id b ≡ floors id b) × (counts_of id b ≡ c.counts id b)
-      kept true unordered = (refl, refl)
+      kept : (b : Bool) → last.waiting.is_unordered ≡ b → ((less : ℕ) × (floors_of id b + less ≡ floors id b) × (less % 2 ^ 32 ≡ 0)) × (counts_of id b ≡ c.counts id b)
+      kept true unordered = (go (has_ordered_rest (stream_named id streams)), refl)
+        where
+          go : (b : Bool) → (less : ℕ) × ((if b then floors id true else floors id true % 2 ^ 32) + less ≡ floors id true) × (less % 2 ^ 32 ≡ 0)
+          go true = (0, omega arith, refl)
+          go false = (floors id true - floors id true % 2 ^ 32, omega arith, omega arith)
       kept false ordered =
           let rest = rest_named (stream_named id streams) u last.waiting is last.front ordered in (
-            ap (λ (b : Bool). if b then floors id false else next_mid false (stream_named id streams)) rest,
+            (0, omega (arith, ap (λ (b : Bool). if b then floors id false else next_mid false (stream_named id streams)) rest), refl),
             ap (λ (b : Bool). if b then c.counts id false else 0) rest,
           )
+
+  dense_of : (id : ℕ) → AreFloorsClose floors_of id → (k : ℕ) → k < counts_of id false → IsBegunUnder [] id (floors_of id false + k)
+  unfolding floors_of counts_of
+  dense_of id = go (has_ordered_rest (stream_named id streams))
+    where
+      go : (b : Bool) → (if b then floors id true else floors id true % 2 ^ 32) < 2 ^ 32 * ((if b then floors id false else next_mid false (stream_named id streams)) + 1) → (k : ℕ) → k < (if b then c.counts id false else 0)
+          → IsBegunUnder [] id ((if b then floors id false else next_mid false (stream_named id streams)) + k)
+      go true anew k less = c.dense id anew k less
+      go false anew k less = absurd (omega (arith, less))
 
   mids_from : CountsMessages (new_history floors_of) streams
   mids_from =
@@ -105,6 +123,7 @@ module _ (streams : List Stream) (floors : ℕ → Bool → ℕ) (c : CountsMess
         below = λ n f at. absurd (cc);
         apart = λ m n f g at at'. absurd (cc);
         going = λ id. last_of id (stream_named id streams).under_way refl (c.going id);
+        dense = dense_of;
       }
 
 -- ---- without it
@@ -146,7 +165,7 @@ module _ (queued : List Message) (streams : List Stream) (held : Option StreamId
 record NumbersFrom (b : Bool) (streams : List Stream) (held : Option StreamId) : Type 0 where
   floors : ℕ → Bool → ℕ
   counts : CountsByKind b (new_history floors) streams held
-  zero : RestIsUnordered streams → ((id : ℕ) → next_mid false (stream_named id streams) % 2 ^ 32 ≡ 0) → ((id : ℕ) → (stream_named id streams).next_ssn ≡ 0) → (id : ℕ) → floors id false % 2 ^ 32 ≡ 0
+  zero : RestIsUnordered streams → ((id : ℕ) → next_mid false (stream_named id streams) % 2 ^ 32 ≡ 0) → ((id : ℕ) → (stream_named id streams).next_ssn ≡ 0) → (id : ℕ) → AreFloorsAtZero floors id
   plain : b ≡ false → RestIsUnordered streams → ((id : ℕ) → (stream_named id streams).next_ssn ≡ 0) → (id : ℕ) → floors id false ≡ 0
 
 numbers_from : (b : Bool) (queued : List Message) (streams : List Stream) (held : Option StreamId) (floors : ℕ → Bool → ℕ) → HoldsQueued queued [] streams → CountsByKind b (new_history floors) streams held → NumbersFrom b streams held
@@ -155,24 +174,27 @@ numbers_from true queued streams held floors holds c =
     record {
       floors = floors_of streams floors c;
       counts = mids_from streams floors c;
-      zero = λ rest zero ssn id. ap (λ (b : Bool). (if b then floors id false else next_mid false (stream_named id streams)) % 2 ^ 32) (none_ordered streams rest id) ∙ zero id;
+      zero = λ rest zero ssn id. (
+        ap (λ (b : Bool). (if b then floors id false else next_mid false (stream_named id streams)) % 2 ^ 32) (none_ordered streams rest id) ∙ zero id,
+        (let high = ap (λ (b : Bool). if b then floors id true else floors id true % 2 ^ 32) (none_ordered streams rest id) in omega (arith, high)),
+      );
       plain = λ is. absurd (cc);
     }
 numbers_from false queued streams held floors holds c =
     record {
       floors = ssn_of streams;
       counts = ssns_from queued streams held holds;
-      zero = λ rest zero ssn id. ap (λ (k : ℕ). k % 2 ^ 32) (first rest ssn id);
-      plain = λ is rest ssn id. first rest ssn id;
+      zero = λ rest zero ssn id. (let low = first rest ssn id false in let high = first rest ssn id true in (omega (arith, low), omega (arith, low, high)));
+      plain = λ is rest ssn id. first rest ssn id false;
     }
   where
-    first : RestIsUnordered streams → ((id : ℕ) → (stream_named id streams).next_ssn ≡ 0) → (id : ℕ) → ssn_of streams id false ≡ 0
-    first rest ssn id = ap (λ (b : Bool). if b then 1 else (stream_named id streams).next_ssn) (none_ordered streams rest id) ∙ ssn id
+    first : RestIsUnordered streams → ((id : ℕ) → (stream_named id streams).next_ssn ≡ 0) → (id : ℕ) (b : Bool) → ssn_of streams id b ≡ 0
+    first rest ssn id b = ap (λ (b : Bool). if b then 1 else (stream_named id streams).next_ssn) (none_ordered streams rest id) ∙ ssn id
 
 -- What waits, waits from these floors.
 pub record WaitsFrom (queued : List Message) (queue : SendQueueState) : Type 0 where
   pub waits : QueueWaits queued queue
-  pub zero : BeginsAtZero queue → (id : ℕ) → waits.floors id false % 2 ^ 32 ≡ 0
+  pub zero : BeginsAtZero queue → (id : ℕ) → AreFloorsAtZero waits.floors id
   pub plain : queue.is_interleaved ≡ false → BeginsAtZero queue → (id : ℕ) → waits.floors id false ≡ 0
 
 pub waits_from : (queued : List Message) (queue : SendQueueState) → QueueWaits queued queue → WaitsFrom queued queue
@@ -184,7 +206,7 @@ waits_from queued queue w =
         holds = record {
           queue_holds = w.holds.queue_holds;
           next = w.holds.next;
-          numbers = record { kinds = λ n f at. absurd (cc); counts = n.counts; kept = w.holds.numbers.kept; whole = w.holds.numbers.whole };
+          numbers = record { kinds = λ n f at. absurd (cc); counts = n.counts; kept = w.holds.numbers.kept; whole = w.holds.numbers.whole; rests = λ id none f at. absurd (cc) };
         };
       };
       zero = λ b. n.zero b.rest b.zero b.ssn;

@@ -45,12 +45,12 @@ module _ (queued : List Message) (id : ℕ) where
 
 pub read_is_front : (queued : List Message) (history : History) (got : List ℕ) (base : ℕ) (places : List ℕ) (incoming : IncomingModel) (read : List MessageContent)
     → WereQueued queued places read → AreDistinct places → ((id : ℕ) → CountsFromZero history id) → ((id : ℕ) → SendsInTurn queued history id) → ((id : ℕ) → AreSentUnlimited history id 0)
-    → IncomingOrdered (uncut any_asked) (sent_messages queued history) (λ id. false) got base places incoming → AreDeliveredWithoutGaps queued read
+    → IncomingOrdered (uncut false any_asked) (sent_messages queued history) (λ id. false) got base places incoming → AreDeliveredWithoutGaps queued read
 read_is_front queued history got base places incoming read were once counts sends unlimited o =
     record {
       ordered = record {
         delivered = record { places = places; were_queued = were; once = once };
-        in_order = λ id. ordered_was_read (uncut any_asked) queued history (λ k. false) got base places incoming id (counts id) o;
+        in_order = λ id. ordered_was_read (uncut false any_asked) queued history (λ k. false) got base places incoming id (counts id) o;
       };
       no_gap = λ id. (
           let s = o.order id (counts id) in

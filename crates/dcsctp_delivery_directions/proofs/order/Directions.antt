@@ -10,7 +10,7 @@ use Rattle.dcsctp_spec_lemmas.specs.spec.queues.OwnResets.{queue_committed}
 use Rattle.dcsctp_spec_lemmas.specs.spec.queues.Transfer.{EndpointQueues}
 use Rattle.dcsctp_delivery_directions.specs.sending.Flushes.{begun_reset_of}
 use Rattle.dcsctp_delivery_directions.specs.sending.Log.{Fits, Message, Slot, History, new_history, sent_messages}
-use Rattle.dcsctp_delivery_directions.specs.sending.Numbers.{is_handed_out, stream_named}
+use Rattle.dcsctp_delivery_directions.specs.sending.Numbers.{is_handed_out, stream_named, AreFloorsAtZero}
 use Rattle.dcsctp_delivery_directions.specs.sending.Queueing.{QueueWaits}
 use Rattle.dcsctp_delivery_directions.proofs.sending.Chunks.{kinds_of}
 use Rattle.dcsctp_delivery_directions.proofs.sending.Counting.{told}
@@ -46,25 +46,25 @@ record GoesInOrder (first : ℕ) (direction : Direction) : Type 0 where
   stands : Stands first direction
   named : NamedAreOut stands.history direction.asking.out direction.queues.queue.streams
   unended : direction.queues.queue.is_interleaved ≡ true → Unended direction.asking
-  zero : direction.queues.queue.is_interleaved ≡ true → direction.beginning.from_zero ≡ true → (id : ℕ) → stands.history.floors id false % 2 ^ 32 ≡ 0
+  zero : direction.queues.queue.is_interleaved ≡ true → direction.beginning.from_zero ≡ true → (id : ℕ) → AreFloorsAtZero stands.history.floors id
   arrives : length stands.history.log < 2 ^ 31 → direction.queues.queue.is_interleaved ≡ true → direction.beginning.from_zero ≡ true
-      → Arrives (uncut any_asked) first stands.history direction.queued direction.read direction.tracker direction.reassembly direction.queues.queue.streams
+      → Arrives (uncut false any_asked) first stands.history direction.queued direction.read direction.tracker direction.reassembly direction.queues.queue.streams
 
 -- Where a reset may be asked for at any time, each epoch is one message.
-pub asked_always : (queued : List Message) (history : History) (id : ℕ) → SendsEpochsInTurn (uncut any_asked id).asks queued history id
+pub asked_always : (queued : List Message) (history : History) (id : ℕ) → SendsEpochsInTurn (uncut false any_asked id).asks queued history id
 asked_always queued history id earlier later mid on free sent from less one = absurd (let no : true ≡ false = one later less (omega arith) in cc)
 
 -- ---- an association begins
 
 -- Nothing was sent in it yet, and no reset begun.
 begins_so : (first : ℕ) (direction : Direction) (s : Stands first direction) (floors : ℕ → Bool → ℕ) → s.history ≡ new_history floors → direction.asking.out ≡ 0 → direction.asking.requests ≡ []
-    → (direction.beginning.from_zero ≡ true → (id : ℕ) → floors id false % 2 ^ 32 ≡ 0) → GoesInOrder first direction
+    → (direction.beginning.from_zero ≡ true → (id : ℕ) → AreFloorsAtZero floors id) → GoesInOrder first direction
 begins_so first direction s floors is none_out none_asked at_zero =
     record {
       stands = s;
       named = λ mark earlier has some. absurd (omega (arith, some, none_out));
       unended = λ interleaved unknown. inl none_asked;
-      zero = λ interleaved from id. ap (λ (h : History). h.floors id false % 2 ^ 32) is ∙ at_zero from id;
+      zero = λ interleaved from id. subst (λ (h : History). AreFloorsAtZero h.floors id) (sym is) (at_zero from id);
       arrives = λ little interleaved from. (
           let a = s.arrived little in
           record {
@@ -72,7 +72,7 @@ begins_so first direction s floors is none_out none_asked at_zero =
             were = a.were;
             once = a.once;
             quiet = none_quiet;
-            received = received_none direction.queued s.history (ap (λ (h : History). h.log) is) any_asked first a.places direction.tracker direction.reassembly a.received;
+            received = received_none direction.queued s.history (ap (λ (h : History). h.log) is) false any_asked first a.places direction.tracker direction.reassembly a.received;
             silent = λ id silent. absurd (cc);
           }
           );
@@ -130,22 +130,23 @@ goes_on_in_order first old small g direction few step ends =
       stands = s;
       named = c.named g.named;
       unended = λ interleaved. k.unended (g.unended (sym k.kind ∙ interleaved));
-      zero = λ interleaved from id. ap (λ (floors : ℕ → Bool → ℕ). floors id false % 2 ^ 32) c.floors ∙ g.zero (sym k.kind ∙ interleaved) (sym k.start ∙ from) id;
+      zero = λ interleaved from id. subst (λ (floors : ℕ → Bool → ℕ). AreFloorsAtZero floors id) (sym c.floors) (g.zero (sym k.kind ∙ interleaved) (sym k.start ∙ from) id);
       arrives = λ little interleaved from. (
           let sizes : length s.history.log ≡ length (c.more ++ g.stands.history.log) = ap (λ (l : List Slot). length l) c.log in
           let before : length g.stands.history.log < 2 ^ 31 = omega (arith, little, sizes, length-append c.more g.stands.history.log) in
           let was : old.queues.queue.is_interleaved ≡ true = sym k.kind ∙ interleaved in
-          arrives_later (uncut any_asked) first g.stands.history s.history old.queues.queue.streams direction.queues.queue.streams old.asking.out direction.asking.out c direction.queued [] direction.read direction.tracker direction.reassembly
-          (arrives_on (uncut any_asked) first old small g.stands (asked_always old.queued g.stands.history) before was direction step ends g.named (g.unended was) (g.arrives before was (sym k.start ∙ from)))
+          arrives_later (uncut false any_asked) first g.stands.history s.history old.queues.queue.streams direction.queues.queue.streams old.asking.out direction.asking.out c direction.queued [] direction.read direction.tracker direction.reassembly
+          (arrives_on (uncut false any_asked) first old small g.stands (asked_always old.queued g.stands.history) before was direction step ends g.named (g.unended was) (λ id known. absurd (cc)) (g.arrives before was (sym k.start ∙ from)))
           (λ id loud since cut has. absurd has)
           );
     }
 
 -- ---- a step that ends a reset
 
-pub raised_zero : (b : Bool) (floor size : ℕ) → floor % 2 ^ 32 ≡ 0 → (if b then 2 ^ 32 * (floor + size + 1) else floor) % 2 ^ 32 ≡ 0
-raised_zero true floor size is = omega arith
-raised_zero false floor size is = is
+pub raised_zero : (b : Bool) (low high size : ℕ) → (low % 2 ^ 32 ≡ 0) × (high < 2 ^ 32 * (low + 1))
+    → ((if b then 2 ^ 32 * (low + size + 1) else low) % 2 ^ 32 ≡ 0) × ((if b then 2 ^ 32 * (high + size + 1) else high) < 2 ^ 32 * ((if b then 2 ^ 32 * (low + size + 1) else low) + 1))
+raised_zero true low high size is = (let less = is.1 in (omega arith, omega (arith, less)))
+raised_zero false low high size is = is
 
 steps_in_order : (first : ℕ) (old : Direction) → first < 2 ^ 32 → GoesInOrder first old → (direction : Direction) → length direction.queued < 2 ^ 64 → DirectionStep old direction → GoesInOrder first direction
 steps_in_order first old small g _ few (commits go_on) =
@@ -155,13 +156,13 @@ steps_in_order first old small g _ few (commits go_on) =
       named = λ mark earlier is some. absurd (omega (arith, some));
       unended = λ interleaved unknown. absurd (let clash : true ≡ false = sym (go_on interleaved).1 ∙ unknown in cc);
       zero = λ interleaved from id.
-          subst (λ (h : History). h.floors id false % 2 ^ 32 ≡ 0) (sym (ended_raises first old small g.stands few go_on interleaved))
-          (raised_zero (is_handed_out (stream_named id old.queues.queue.streams).pause) (g.stands.history.floors id false) (length g.stands.history.log) (g.zero interleaved from id));
+          subst (λ (h : History). AreFloorsAtZero h.floors id) (sym (ended_raises first old small g.stands few go_on interleaved))
+          (raised_zero (is_handed_out (stream_named id old.queues.queue.streams).pause) (g.stands.history.floors id false) (g.stands.history.floors id true) (length g.stands.history.log) (g.zero interleaved from id));
       arrives = λ little interleaved from. (
           let raises = ended_raises first old small g.stands few go_on interleaved in
           let before : length g.stands.history.log < 2 ^ 31 = subst (λ (h : History). length h.log < 2 ^ 31) raises little in
-          subst (λ (h : History). Arrives (uncut any_asked) first h old.queued old.read old.tracker old.reassembly (queue_committed old.queues.queue).streams) (sym raises)
-          (committing_arrives (uncut any_asked) first old small g.stands (asked_always old.queued g.stands.history) before interleaved (go_on interleaved).0 (go_on interleaved).1 (g.zero interleaved from) (g.arrives before interleaved from))
+          subst (λ (h : History). Arrives (uncut false any_asked) first h old.queued old.read old.tracker old.reassembly (queue_committed old.queues.queue).streams) (sym raises)
+          (committing_arrives (uncut false any_asked) first old small g.stands (asked_always old.queued g.stands.history) before interleaved (go_on interleaved).0 (go_on interleaved).1 (g.zero interleaved from) (g.arrives before interleaved from) (λ id. []) (λ id shut. refl) (λ got same base o id handed cut has. absurd has))
           );
     }
 steps_in_order first old small g _ few (rolls_back unmixed) =
@@ -232,6 +233,6 @@ directions_deliver_in_order options first size direction run small little few in
     go s a.quiet a.received.got a.places a.were a.once counts a.received.holds
   where
     go : (s : Stands first direction) (quiet : ℕ → Bool) (got places : List ℕ) → WereQueued direction.queued places direction.read → AreDistinct places → ((id : ℕ) → CountsFromZero s.history id)
-        → ReassemblesInOrder (uncut any_asked) (sent_messages direction.queued s.history) quiet first got places direction.reassembly.incoming → AreDeliveredInOrder direction.queued direction.read
-    go s quiet got places were once counts (none_handled none' last empty') = read_is_in_order (uncut any_asked) direction.queued s.history quiet [] 0 places direction.reassembly.incoming direction.read were once counts (empty' 0)
-    go s quiet got places were once counts (some_handled base is holds) = read_is_in_order (uncut any_asked) direction.queued s.history quiet got base places direction.reassembly.incoming direction.read were once counts holds
+        → ReassemblesInOrder (uncut false any_asked) (sent_messages direction.queued s.history) quiet first got places direction.reassembly.incoming → AreDeliveredInOrder direction.queued direction.read
+    go s quiet got places were once counts (none_handled none' last empty') = read_is_in_order (uncut false any_asked) direction.queued s.history quiet [] 0 places direction.reassembly.incoming direction.read were once counts (empty' 0)
+    go s quiet got places were once counts (some_handled base is holds) = read_is_in_order (uncut false any_asked) direction.queued s.history quiet got base places direction.reassembly.incoming direction.read were once counts holds

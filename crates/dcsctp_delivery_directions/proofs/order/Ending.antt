@@ -1,6 +1,6 @@
 -- The end of a deferred reset: streams are reset, and what waited is handled. It is of streams that
 -- aren't quiet then.
-use Rattle.std.proofs.Common.{◌≡◌, ℕ, Bool, true, List, [], ◌∷◌, refl, sym, ◌∙◌, subst, inl, inr}
+use Rattle.std.proofs.Common.{◌≡◌, ℕ, Bool, true, List, [], ◌∷◌, refl, sym, ◌∙◌, subst, inl, inr, arith, ◌++◌}
 use Rattle.std.specs.Prelude.{◌⊎◌, ◌||◌, Option, None, Some}
 use Rattle.dcsctp_spec_lemmas.specs.spec.queues.Incoming.{IncomingModel, ResetsStreams}
 use Rattle.dcsctp_spec_lemmas.specs.spec.queues.Reassembly.{WaitingModel, WaitingSkips, DeferralModel, ReassemblyState, names_stream, HandlesAll, SkipsThen, waiting_of, skips_of, EndsDeferral}
@@ -18,18 +18,24 @@ use Rattle.dcsctp_delivery_directions.specs.order.Received.{ReassemblesInOrder, 
 use Rattle.dcsctp_delivery_directions.proofs.order.Incoming.{resetting_in_order}
 use Rattle.dcsctp_delivery_directions.proofs.order.Received.{loud_by, loud_entries, data_in_order, forward_in_order}
 use Rattle.dcsctp_delivery_directions.specs.order.Reading.{Watch}
+use Rattle.dcsctp_delivery_directions.specs.order.Incoming.{IncomingOrdered, NamedAreRead}
 
 -- the quiet streams once these were reset
 abbrev pub quiet_with : (ℕ → Bool) → List ℕ → ℕ → Bool
 quiet_with quiet streams id = quiet id || names_stream streams id
 
 module _ (watch : ℕ → Watch) (queued : List Message) (history : History) (first : ℕ) (cut : IsLogOfPieces queued history.log) (told : IsUnambiguous history) (f : Few history first) (turns : (id : ℕ) → SendsEpochsInTurn (watch id).asks queued history id) (read : List ℕ) where
-  reset_in_order : (quiet : ℕ → Bool) (got streams : List ℕ) (old new : IncomingModel) → ReassemblesInOrder watch (sent_messages queued history) quiet first got read old → ResetsStreams streams old new
+  -- All that was sent on streams that are reset is read, whatever the queue has for the first TSN.
+  abbrev pub NamedAreReadOf : (ℕ → Bool) → List ℕ → List ℕ → IncomingModel → Type 0
+  NamedAreReadOf quiet got streams old =
+      (now : List ℕ) → now ≡ got → (base : ℕ) (o : IncomingOrdered watch (sent_messages queued history) quiet now base read old) → NamedAreRead watch history quiet streams (read ++ o.holds.places)
+
+  reset_in_order : (quiet : ℕ → Bool) (got streams : List ℕ) (old new : IncomingModel) → NamedAreReadOf quiet got streams old → ReassemblesInOrder watch (sent_messages queued history) quiet first got read old → ResetsStreams streams old new
       → ReassemblesInOrder watch (sent_messages queued history) (quiet_with quiet streams) first got read new
-  reset_in_order quiet got streams old new (some_handled base is holds) resets =
-      some_handled base (subst (λ (l : ℕ). CountsFromBase first base l) (sym (kept_last queued history first cut told f read streams old new resets)) is) (resetting_in_order watch queued history quiet got base read streams old new turns holds resets)
-  reset_in_order quiet got streams old new (none_handled none last empty) resets =
-      none_handled none (kept_last queued history first cut told f read streams old new resets ∙ last) (λ base. resetting_in_order watch queued history quiet [] base read streams old new turns (empty base) resets)
+  reset_in_order quiet got streams old new all (some_handled base is holds) resets =
+      some_handled base (subst (λ (l : ℕ). CountsFromBase first base l) (sym (kept_last queued history first cut told f read streams old new resets)) is) (resetting_in_order watch queued history quiet got base read streams old new turns holds (all got refl base holds) resets)
+  reset_in_order quiet got streams old new all (none_handled none last empty) resets =
+      none_handled none (kept_last queued history first cut told f read streams old new resets ∙ last) (λ base. resetting_in_order watch queued history quiet [] base read streams old new turns (empty base) (all [] (sym none) base (empty base)) resets)
 
   module _ (quiet : ℕ → Bool) where
     -- some more were handled
@@ -37,11 +43,12 @@ module _ (watch : ℕ → Watch) (queued : List Message) (history : History) (fi
       now : List ℕ
       holds : ReassemblesInOrder watch (sent_messages queued history) quiet first now read new
       among : (k : ℕ) → HasEntry k now → HasEntry k later ⊎ HasEntry k got
+      all : (k : ℕ) → HasEntry k later ⊎ HasEntry k got → HasEntry k now
 
     all_in_order : (got later : List ℕ) (waiting : List WaitingModel) (old new : IncomingModel) → ((id : ℕ) → quiet id ≡ true → NoneWaits id waiting) → ReassemblesInOrder watch (sent_messages queued history) quiet first got read old
         → DefersData history first later waiting → AreDistinct later → ((k : ℕ) → HasEntry k later → HasEntry k got → ⊥) → HandlesAll waiting old new → Handled got later new
     all_in_order got [] [] old new loud holds defers distinct apart works =
-        record { now = got; holds = subst (λ (m : IncomingModel). ReassemblesInOrder watch (sent_messages queued history) quiet first got read m) (sym works) holds; among = λ k h. inr h }
+        record { now = got; holds = subst (λ (m : IncomingModel). ReassemblesInOrder watch (sent_messages queued history) quiet first got read m) (sym works) holds; among = λ k h. inr h; all = λ k h. elim h [ inl l ↦ absurd l | inr g ↦ g ] }
     all_in_order got (n ∷ later) [] old new loud holds defers distinct apart works = absurd defers
     all_in_order got [] (one ∷ waiting) old new loud holds defers distinct apart works = absurd defers
     all_in_order got (n ∷ later) (one ∷ waiting) old new loud holds defers distinct apart (between, takes, rest) =
@@ -56,6 +63,10 @@ module _ (watch : ℕ → Watch) (queued : List Message) (history : History) (fi
             | inl l ↦ inl (inr l)
             | inr r ↦ elim r [ inl e ↦ inl (inl e) | inr t ↦ inr t ]
           ];
+          all = λ k h. others.all k (elim h [
+            | inl l ↦ elim l [ inl e ↦ inr (inl e) | inr t ↦ inl t ]
+            | inr g ↦ inr (inr g)
+          ]);
         }
 
     -- and what was kept of FORWARD-TSNs is skipped then
@@ -73,10 +84,10 @@ module _ (watch : ℕ → Watch) (queued : List Message) (history : History) (fi
 
   pub ends_in_order : (quiet : ℕ → Bool) (streams : List ℕ) (tracker : TrackerState) (old new : ReassemblyState) → ((id : ℕ) → quiet_with quiet streams id ≡ true → NoneWaits id (waiting_of old.deferral))
       → ((id : ℕ) → quiet_with quiet streams id ≡ true → NoneSkips id (kept_entries (skips_of old.deferral))) → ForwardsWait history first old.deferral
-      → HasReceivedInOrder watch (sent_messages queued history) quiet first read tracker old → EndsDeferral streams old new → HasReceivedInOrder watch (sent_messages queued history) (quiet_with quiet streams) first read tracker new
-  ends_in_order quiet streams tracker old new no_data no_skips forwards r leaves =
+      → (r : HasReceivedInOrder watch (sent_messages queued history) quiet first read tracker old) → NamedAreReadOf quiet r.got streams old.incoming → EndsDeferral streams old new → HasReceivedInOrder watch (sent_messages queued history) (quiet_with quiet streams) first read tracker new
+  ends_in_order quiet streams tracker old new no_data no_skips forwards r all leaves =
       let now : ℕ → Bool = quiet_with quiet streams in
-      let done = all_in_order now r.got r.later (waiting_of old.deferral) leaves.between leaves.handled no_data (reset_in_order quiet r.got streams old.incoming leaves.between r.holds leaves.resets) r.defers r.distinct r.apart leaves.works in
+      let done = all_in_order now r.got r.later (waiting_of old.deferral) leaves.between leaves.handled no_data (reset_in_order quiet r.got streams old.incoming leaves.between all r.holds leaves.resets) r.defers r.distinct r.apart leaves.works in
       record {
         taken = r.taken;
         got = done.now;
@@ -84,6 +95,8 @@ module _ (watch : ℕ → Watch) (queued : List Message) (history : History) (fi
         tracks = r.tracks;
         got_taken = λ k h. elim (done.among k h) [ inl l ↦ r.later_taken k l | inr g ↦ r.got_taken k g ];
         later_taken = λ k h. absurd h;
+        either = λ k h. inl (done.all k (elim (r.either k h) [ inl g ↦ inr g | inr l ↦ inl l ]));
+        exact = λ small k is known. r.exact (let window = leaves.window in omega (arith, small, window)) k is known;
         apart = λ k h g. absurd h;
         distinct = tt;
         holds = forwards_in_order now done.now old.deferral leaves.handled new.incoming no_skips forwards done.holds leaves.skips;

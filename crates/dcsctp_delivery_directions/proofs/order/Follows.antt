@@ -1,10 +1,10 @@
 -- In a log of I-DATA the numbers of a stream's messages follow the order in which they were queued.
-use Rattle.std.proofs.Common.{◌≡◌, ℕ, zero, suc, true, false, ◌<◌, ◌≤◌, ◌+◌, ◌%◌, ◌^◌, List, refl, sym, ◌∙◌, ap, arith, inl, inr}
+use Rattle.std.proofs.Common.{◌≡◌, ℕ, zero, suc, true, false, ◌<◌, ◌≤◌, ◌+◌, List, refl, sym, ◌∙◌, ap, arith, inl, inr}
 use Rattle.std.specs.Prelude.{◌⊎◌, Some}
 use Rattle.std.proofs.lemmas.Bool.Decides.{eqb_tells, leb_tells}
 use Rattle.dcsctp_delivery_directions.specs.sending.Places.{at_place}
 use Rattle.dcsctp_delivery_directions.specs.sending.Log.{Message, Piece, Slot, IsLogOfPieces, History}
-use Rattle.dcsctp_delivery_directions.specs.sending.Numbers.{AreOfKind, IsUnambiguous, plain, interleaved}
+use Rattle.dcsctp_delivery_directions.specs.sending.Numbers.{AreOfKind, IsUnambiguous, plain, interleaved, AreFloorsAtZero}
 use Rattle.dcsctp_delivery_directions.specs.order.Queue.{FollowsQueue}
 use Rattle.dcsctp_delivery_directions.specs.order.Reading.{CountsFromZero}
 
@@ -90,25 +90,38 @@ module _ (queued : List Message) (log : List Slot) (cut : IsLogOfPieces queued l
         ]
 
 -- So the numbers of each stream count from zero, if its floor is one of those that are read as 0.
-pub counts_from_zero : (queued : List Message) (history : History) (id : ℕ) → IsLogOfPieces queued history.log → IsUnambiguous history → AreOfKind true history.log → history.floors id false % 2 ^ 32 ≡ 0 → CountsFromZero history id
-counts_from_zero queued history id cut (interleaved kinds small few apart) are floor =
+pub counts_from_zero : (queued : List Message) (history : History) (id : ℕ) → IsLogOfPieces queued history.log → IsUnambiguous history → AreOfKind true history.log → AreFloorsAtZero history.floors id → CountsFromZero history id
+counts_from_zero queued history id cut (interleaved kinds small few apart dense) are starts =
     record {
       kinds = kinds;
       follows = λ m n f g at at' on on'. follows_queue queued history.log cut kinds m n f g at at' (on ∙ sym on');
       apart = apart;
-      floor = floor;
+      floor = starts.0;
       few = λ n f at on ordered. (
           let floors : history.floors f.message.stream f.message.is_unordered ≡ history.floors id false =
           ap (λ (k : ℕ). history.floors k f.message.is_unordered) on ∙ ap (history.floors id) ordered in
           let below = few n f at in
           omega (arith, below, floors)
           );
+      dense = λ n f at on ordered mid from up. (
+          let b = dense id starts.1 n f at on ordered mid from up in (
+            b,
+            elim (leb_tells b.offset n) [
+              | inl low ↦ low.1
+              | inr high ↦ absurd
+                  (let higher = cut.climbs n b.offset f b.piece high.1 at b.at b.start (kinds b.offset b.piece b.at) (on ∙ sym b.stream) (ordered ∙ sym b.ordered) in
+                  let under = b.under in
+                  omega (arith, higher, under, up))
+            ],
+          )
+          );
     }
-counts_from_zero queued history id cut (plain kinds) are floor =
+counts_from_zero queued history id cut (plain kinds) are starts =
     record {
       kinds = are;
       follows = λ m n f g at at' on on'. follows_queue queued history.log cut are m n f g at at' (on ∙ sym on');
       apart = λ m n f g at at' on kind same. absurd (let clash : true ≡ false = sym (are m f at) ∙ kinds m f at in cc);
-      floor = floor;
+      floor = starts.0;
       few = λ n f at on ordered. absurd (let clash : true ≡ false = sym (are n f at) ∙ kinds n f at in cc);
+      dense = λ n f at. absurd (let clash : true ≡ false = sym (are n f at) ∙ kinds n f at in cc);
     }

@@ -1,5 +1,5 @@
 -- Streams that are reset, what the user reads, and more that the peer sends.
-use Rattle.std.proofs.Common.{◌≡◌, ℕ, Bool, true, false, ◌%◌, ◌^◌, List, [], ◌∷◌, ◌++◌, refl, sym, ◌∙◌, ap, subst, inl, inr, arith}
+use Rattle.std.proofs.Common.{◌≡◌, ℕ, Bool, true, false, ◌%◌, ◌^◌, List, [], ◌∷◌, ◌++◌, refl, sym, ◌∙◌, ap, subst, inl, inr, arith, ◌≤◌}
 use Rattle.std.specs.Prelude.{◌||◌, Some, not, if◌then◌else◌}
 use Rattle.dcsctp_spec_lemmas.specs.types.queues.Messages.{MessageContent}
 use Rattle.dcsctp_spec_lemmas.specs.spec.queues.Runs.{RunModel, WholeModel}
@@ -17,14 +17,17 @@ use Rattle.dcsctp_delivery_directions.specs.order.Queue.{IsMessageOn, IsOrderedO
 use Rattle.dcsctp_delivery_directions.specs.order.Order.{IsSentAs, IsReadAs, AreReadAs, IsBetweenResets}
 use Rattle.dcsctp_delivery_directions.specs.order.Epochs.{AreSentUnlimited, LeavesNoGapTo, LeaveNoGapSent, AreReadByEpoch, SendsEpochsInTurn}
 use Rattle.dcsctp_delivery_directions.specs.order.Reading.{CountsFromZero, Watch, uncut, ComeSince}
-use Rattle.dcsctp_delivery_directions.specs.order.Incoming.{IsOrderedOrReset, HoldsOrdered, IncomingOrdered, ReadsInOrder, IsWithin, first_ready}
+use Rattle.dcsctp_delivery_directions.specs.order.Incoming.{IsOrderedOrReset, HoldsOrdered, IncomingOrdered, ReadsInOrder, IsWithin, first_ready, NamedAreRead, SendsNoMore}
 use Rattle.dcsctp_delivery_directions.proofs.order.Order.{come_between, new_in_order}
 use Rattle.dcsctp_delivery_directions.proofs.order.Epochs.{new_by_epoch, epochs_leave_no_gap}
 use Rattle.dcsctp_delivery_directions.proofs.order.Separated.{separated_queued, ordered_before}
+use Rattle.dcsctp_delivery_directions.proofs.sending.Places.{at_some, at_below}
+use Rattle.dcsctp_delivery_directions.proofs.order.HeldParts.{parts_anew}
+use Rattle.dcsctp_delivery_directions.specs.order.Parts.{HoldsParts, ReadsAllSent}
 
 -- ---- an association that was just begun
 
-pub beginning_in_order : (asks : ℕ → ℕ → Bool) (queued : List Message) (history : History) (quiet : ℕ → Bool) (base : ℕ) → IncomingOrdered (uncut asks) (sent_messages queued history) quiet [] base [] nothing
+pub beginning_in_order : (asks : ℕ → ℕ → Bool) (queued : List Message) (history : History) (quiet : ℕ → Bool) (base : ℕ) → IncomingOrdered (uncut false asks) (sent_messages queued history) quiet [] base [] nothing
 beginning_in_order asks queued history quiet base =
     record {
       holds = record {
@@ -37,11 +40,13 @@ beginning_in_order asks queued history quiet base =
         once = λ id. tt;
       };
       order = λ id counts. first id (quiet id);
+      within = λ n h. absurd h;
+      parts = λ id counts unlimited loud. parts_anew history [] id (λ n f is h. absurd h);
     }
   where
-    first : (id : ℕ) (b : Bool) → IsOrderedOrReset (uncut asks id) b (sent_messages queued history) id [] [] (new_stream id)
+    first : (id : ℕ) (b : Bool) → IsOrderedOrReset (uncut false asks id) b (sent_messages queued history) id [] [] (new_stream id)
     first id false = record { order = new_in_order queued history id; reach = record { from = omega arith; up_to = omega arith }; by_epoch = new_by_epoch (asks id) queued history id; separated = λ cut has. absurd has; since = λ cut has. absurd has }
-    first id true = (record { in_order = tt; sent = λ place has on. absurd has }, (λ cut has. absurd has), (λ later has on. absurd has))
+    first id true = (record { in_order = tt; sent = λ place has on. absurd has }, (λ cut has. absurd has), (λ later has on. absurd has), (λ knows. absurd (cc)))
 
 -- ---- streams that are reset
 
@@ -61,36 +66,45 @@ no_gap_where watch queued history true id all waits stream counts turns between 
 
 module _ (watch : ℕ → Watch) (queued : List Message) (history : History) (quiet : ℕ → Bool) (got : List ℕ) (base : ℕ) (read : List ℕ) where
   renewed : ((id : ℕ) → SendsEpochsInTurn (watch id).asks queued history id) → (named : ℕ → Bool) (streams later : ℕ → StreamModel) (unordered others : List RunModel) (ready : List MessageContent) → ((id : ℕ) → later id ≡ (if named id then new_stream id else streams id))
-      → AreRows history.log got (unordered_base base) IsOfStream others → HoldsOrdered watch (sent_messages queued history) quiet got base read (held_messages streams unordered ready)
+      → AreRows history.log got (unordered_base base) IsOfStream others → (o : HoldsOrdered watch (sent_messages queued history) quiet got base read (held_messages streams unordered ready))
+      → ((id : ℕ) → named id ≡ true → quiet id ≡ false → CountsFromZero history id → (watch id).knows_all ≡ true → ReadsAllSent history id (read ++ o.holds.places))
       → HoldsOrdered watch (sent_messages queued history) (λ id. quiet id || named id) got base read (held_messages later others ready)
   unfolding holds_renewed
-  renewed turns named streams later unordered others ready are rows o =
+  renewed turns named streams later unordered others ready are rows o all =
       record {
         holds = holds_renewed queued history got base read named streams later unordered others ready are rows o.holds;
         order = λ id counts. subst (λ (s : StreamModel). IsOrderedOrReset (watch id) (quiet id || named id) (sent_messages queued history) id (read ++ o.holds.places) (if named id then [] else o.holds.waits id) s) (sym (are id))
-            (left_order id counts (quiet id) (named id) (o.order id counts));
+            (left_order id counts (quiet id) (named id) refl refl (o.order id counts));
+        within = o.within;
+        parts = λ id counts unlimited loud. subst (λ (s : StreamModel). HoldsParts history got id s) (sym (are id)) (left_parts id (quiet id) (named id) (o.parts id counts unlimited) loud);
       }
     where
-      left_order : (id : ℕ) → CountsFromZero history id → (was b : Bool) → IsOrderedOrReset (watch id) was (sent_messages queued history) id (read ++ o.holds.places) (o.holds.waits id) (streams id)
+      left_parts : (id : ℕ) (was b : Bool) → (was ≡ false → HoldsParts history got id (streams id)) → (was || b) ≡ false → HoldsParts history got id (if b then new_stream id else streams id)
+      left_parts id true b parts loud = absurd (cc)
+      left_parts id false true parts loud = absurd (cc)
+      left_parts id false false parts loud = parts refl
+
+      left_order : (id : ℕ) → CountsFromZero history id → (was b : Bool) → quiet id ≡ was → named id ≡ b → IsOrderedOrReset (watch id) was (sent_messages queued history) id (read ++ o.holds.places) (o.holds.waits id) (streams id)
           → IsOrderedOrReset (watch id) (was || b) (sent_messages queued history) id (read ++ o.holds.places) (if b then [] else o.holds.waits id) (if b then new_stream id else streams id)
-      left_order id counts true true between = between
-      left_order id counts true false between = between
-      left_order id counts false true ordered = (
+      left_order id counts true true is its between = between
+      left_order id counts true false is its between = between
+      left_order id counts false true is its ordered = (
         quiet_where (watch id) queued history false id (read ++ o.holds.places) (o.holds.waits id) (streams id) ordered,
         ordered.separated,
         epochs_leave_no_gap (watch id).asks queued history id (read ++ o.holds.places) (streams id).next counts (turns id) ordered.by_epoch,
+        λ knows. all id its is counts knows,
       )
-      left_order id counts false false ordered = ordered
+      left_order id counts false false is its ordered = ordered
 
-  pub resetting_in_order : (streams : List ℕ) (old new : IncomingModel) → ((id : ℕ) → SendsEpochsInTurn (watch id).asks queued history id) → IncomingOrdered watch (sent_messages queued history) quiet got base read old → ResetsStreams streams old new → IncomingOrdered watch (sent_messages queued history) (λ id. quiet id || names_stream streams id) got base read new
-  resetting_in_order [] old new turns o resets =
+  pub resetting_in_order : (streams : List ℕ) (old new : IncomingModel) → ((id : ℕ) → SendsEpochsInTurn (watch id).asks queued history id) → (o : IncomingOrdered watch (sent_messages queued history) quiet got base read old) → NamedAreRead watch history quiet streams (read ++ o.holds.places) → ResetsStreams streams old new → IncomingOrdered watch (sent_messages queued history) (λ id. quiet id || names_stream streams id) got base read new
+  resetting_in_order [] old new turns o all resets =
       subst (λ (l : List MessageContent). HoldsOrdered watch (sent_messages queued history) (λ id. quiet id || true) got base read (held_messages (λ id. stream_on id new.streams) new.unordered l)) (sym resets.kept.ready)
       (renewed turns (λ id. true) (λ id. stream_on id old.streams) (λ id. stream_on id new.streams) old.unordered new.unordered old.ready resets.streams
-      (subst (λ (l : List RunModel). AreRows history.log got (unordered_base base) IsOfStream l) (sym resets.unordered) tt) o)
-  resetting_in_order (reset ∷ others) old new turns o resets =
+      (subst (λ (l : List RunModel). AreRows history.log got (unordered_base base) IsOfStream l) (sym resets.unordered) tt) o all)
+  resetting_in_order (reset ∷ others) old new turns o all resets =
       subst (λ (l : List MessageContent). HoldsOrdered watch (sent_messages queued history) (λ id. quiet id || is_named (reset ∷ others) id) got base read (held_messages (λ id. stream_on id new.streams) new.unordered l)) (sym resets.kept.ready)
       (renewed turns (is_named (reset ∷ others)) (λ id. stream_on id old.streams) (λ id. stream_on id new.streams) old.unordered new.unordered old.ready resets.streams
-      (subst (λ (l : List RunModel). AreRows history.log got (unordered_base base) IsOfStream l) (sym resets.unordered) (rows_filter queued history got base read (unordered_base base) IsOfStream (λ run. not (is_named (reset ∷ others) run.number)) old.unordered o.holds.rows)) o)
+      (subst (λ (l : List RunModel). AreRows history.log got (unordered_base base) IsOfStream l) (sym resets.unordered) (rows_filter queued history got base read (unordered_base base) IsOfStream (λ run. not (is_named (reset ∷ others) run.number)) old.unordered o.holds.rows)) o all)
 
   -- ---- what the user reads
 
@@ -125,6 +139,8 @@ module _ (watch : ℕ → Watch) (queued : List Message) (history : History) (qu
                 once = λ id. subst (λ (l : List ℕ). AreDistinct (l ++ o.holds.waits id)) all (o.holds.once id);
               };
               order = λ id counts. subst (λ (l : List ℕ). IsOrderedOrReset (watch id) (quiet id) (sent_messages queued history) id l (o.holds.waits id) (stream_on id incoming.streams)) all (o.order id counts);
+              within = o.within;
+              parts = o.parts;
             };
           }
 
@@ -145,7 +161,7 @@ module _ (queued more : List Message) (history later : History) (id : ℕ) (with
   same_floor : later.floors id false ≡ history.floors id false
   same_floor = ap (λ (floors : ℕ → Bool → ℕ). floors id false) within.floors
 
-  counts_before : CountsFromZero later id → CountsFromZero history id
+  pub counts_before : CountsFromZero later id → CountsFromZero history id
   counts_before counts =
       record {
         kinds = λ n f at. counts.kinds n f (within.stays n (Some f) at);
@@ -153,6 +169,12 @@ module _ (queued more : List Message) (history later : History) (id : ℕ) (with
         apart = λ m n f g at at'. counts.apart m n f g (within.stays m (Some f) at) (within.stays n (Some g) at');
         floor = ap (λ (k : ℕ). k % 2 ^ 32) (sym same_floor) ∙ counts.floor;
         few = λ n f at on ordered. (let few = counts.few n f (within.stays n (Some f) at) on ordered in omega (arith, few, same_floor));
+        dense = λ n f at on ordered mid from up. (
+            let (b, low) = counts.dense n f (within.stays n (Some f) at) on ordered mid (omega (arith, from, same_floor)) up in
+            let (slot, there) = at_some b.offset history.log (let below = at_below n (Some f) history.log at in omega (arith, below, low)) in
+            let same : Some slot ≡ Some (Some b.piece) = sym (within.stays b.offset slot there) ∙ b.at in
+            (record { offset = b.offset; piece = b.piece; at = there ∙ same; stream = b.stream; ordered = b.ordered; start = b.start; under = b.under }, low)
+            );
       }
 
   -- a message that was queued
@@ -226,9 +248,9 @@ module _ (queued more : List Message) (history later : History) (id : ℕ) (with
       }
 
 pub growing_in_order : (watch : Watch) (queued more : List Message) (history later : History) (quiet : Bool) (id : ℕ) (all waits : List ℕ) (contents : List MessageContent) (stream : StreamModel)
-    → IsWithin history later → (quiet ≡ false → ComeSince history id watch.cuts → ComeSince later id watch.cuts) → WereQueued queued all contents → CountsFromZero later id → (CountsFromZero history id → IsOrderedOrReset watch quiet (sent_messages queued history) id all waits stream)
+    → IsWithin history later → (quiet ≡ false → ComeSince history id watch.cuts → ComeSince later id watch.cuts) → (quiet ≡ true → SendsNoMore history later id) → WereQueued queued all contents → CountsFromZero later id → (CountsFromZero history id → IsOrderedOrReset watch quiet (sent_messages queued history) id all waits stream)
     → IsOrderedOrReset watch quiet (sent_messages (more ++ queued) later) id all waits stream
-growing_in_order watch queued more history later false id all waits contents stream within fresh were counts ordered =
+growing_in_order watch queued more history later false id all waits contents stream within fresh silent were counts ordered =
     let o = ordered (counts_before queued more history later id within counts) in
     record {
       order = record {
@@ -245,7 +267,7 @@ growing_in_order watch queued more history later false id all waits contents str
       separated = separated_queued watch.asks queued more id watch.cuts all (message_so queued more history later id within all contents were) o.separated;
       since = fresh refl o.since;
     }
-growing_in_order watch queued more history later true id all waits contents stream within fresh were counts ordered =
+growing_in_order watch queued more history later true id all waits contents stream within fresh silent were counts ordered =
     let both = ordered (counts_before queued more history later id within counts) in
     let o = both.0 in (
       record {
@@ -254,4 +276,17 @@ growing_in_order watch queued more history later true id all waits contents stre
       },
       separated_queued watch.asks queued more id watch.cuts all (message_so queued more history later id within all contents were) both.1,
       λ after has on. whole_more queued more history later id within watch.asks all contents were after has on (both.2 after has (queued_so queued more history later id within all contents were after has on)),
+      λ knows unlimited n f is. both.3 knows
+          (λ m g is'. unlimited m g (record {
+            at = within.stays m (Some g) is'.at;
+            stream = is'.stream;
+            ordered = is'.ordered;
+            current = subst (λ (k : ℕ → Bool → ℕ). k g.message.stream g.message.is_unordered ≤ g.mid) (sym within.floors) is'.current;
+          })) n f
+          (record {
+            at = silent refl n f is.at is.stream;
+            stream = is.stream;
+            ordered = is.ordered;
+            current = subst (λ (k : ℕ → Bool → ℕ). k f.message.stream f.message.is_unordered ≤ f.mid) within.floors is.current;
+          }),
     )

@@ -80,6 +80,7 @@ others_where watch queued history true id all waits more stream none between = (
     | inl old ↦ has_left earlier all more (between.2 later old on earlier on' free less one unlimited)
     | inr new ↦ absurd (none later new (on_stream queued id later on))
   ],
+  λ knows unlimited n f is. has_left f.place all more (between.3 knows unlimited n f is),
 )
 
 -- a place on the stream

@@ -51,7 +51,7 @@ in_get r k [] e = absurd (cc)
 in_get r zero (x ∷ xs) e = (let same : x ≡ r = cc in inl (sym same))
 in_get r (suc k) (x ∷ xs) e = inr (in_get r k xs e)
 
-in_before : (r : RunModel) (at : ℕ) (xs : List RunModel) → entry_before at xs ≡ Some r → HasEntry r xs
+pub in_before : (r : RunModel) (at : ℕ) (xs : List RunModel) → entry_before at xs ≡ Some r → HasEntry r xs
 in_before r zero xs e = absurd (cc)
 in_before r (suc at) xs e = in_get r at xs e
 
@@ -109,7 +109,7 @@ rise_end from end [] rise = rise
 rise_end from end (x ∷ wholes) rise = (let low = rise.0 in let more = rise_end (x.number + 1) end wholes rise.1 in omega (arith, low, more))
 
 -- a message that waits goes on to wait, or becomes ready
-due_or_not : (number from next : ℕ) (waiting : List WholeModel) → Rise from (next_due next waiting) (due next waiting) → is_number_waiting number waiting ≡ true → number < next_due next waiting ⊎ (is_number_waiting number (not_due next waiting) ≡ true)
+pub due_or_not : (number from next : ℕ) (waiting : List WholeModel) → Rise from (next_due next waiting) (due next waiting) → is_number_waiting number waiting ≡ true → number < next_due next waiting ⊎ (is_number_waiting number (not_due next waiting) ≡ true)
 due_or_not number from next [] rise e = absurd (cc)
 due_or_not number from next (w ∷ waiting) rise e =
     elim (leb_tells w.number next) [
@@ -124,7 +124,7 @@ due_or_not number from next (w ∷ waiting) rise e =
           rw t.0 found)
     ]
 
-waits_among : (number at : ℕ) (whole : WholeModel) (waiting : List WholeModel) → (whole.number ≡ number) ⊎ (is_number_waiting number waiting ≡ true) → is_number_waiting number (take at waiting ++ whole ∷ drop at waiting) ≡ true
+pub waits_among : (number at : ℕ) (whole : WholeModel) (waiting : List WholeModel) → (whole.number ≡ number) ⊎ (is_number_waiting number waiting ≡ true) → is_number_waiting number (take at waiting ++ whole ∷ drop at waiting) ≡ true
 waits_among number zero whole waiting has = elim has [ inl is ↦ waits_first number whole waiting is | inr e ↦ waits_in number whole waiting e ]
 waits_among number (suc at) whole [] has = elim has [ inl is ↦ waits_first number whole [] is | inr e ↦ absurd (cc) ]
 waits_among number (suc at) whole (w ∷ waiting) has =

@@ -169,7 +169,7 @@ size_drop zero bytes = omega arith
 size_drop (suc k) [] = omega arith
 size_drop (suc k) (b ∷ bytes) = (let rest = size_drop k bytes in omega (arith, rest))
 
-piece_small : (piece : Piece) → length (piece_bytes piece) ≤ length piece.message.payload
+pub piece_small : (piece : Piece) → length (piece_bytes piece) ≤ length piece.message.payload
 piece_small piece = (let a = size_take piece.size (drop piece.start piece.message.payload) in let b = size_drop piece.start piece.message.payload in omega (arith, a, b))
 
 window_left : (bytes max size : ℕ) (follows below first : Bool)
@@ -187,7 +187,7 @@ window_left bytes max size follows below first room counts = go (nat_le (9 * max
     go true is either = beyond (nat_lt 0 (max - bytes)) refl (both below _ (both follows _ either).1).1
 
 -- where there is room, data can be counted
-counted_so : (tsn size : ℕ) (transfer : Transfer) → has_room tsn transfer ≡ true → IsCounted transfer.reassembly.max_size size → can_count size transfer.reassembly ≡ true
+pub counted_so : (tsn size : ℕ) (transfer : Transfer) → has_room tsn transfer ≡ true → IsCounted transfer.reassembly.max_size size → can_count size transfer.reassembly ≡ true
 counted_so tsn size transfer room counts =
     let less = window_left (window_used transfer.reassembly) transfer.reassembly.max_size size transfer.tracker.follows_rfc
     (is_below_highest tsn transfer.tracker) (is_first_missing tsn transfer.tracker) room counts in

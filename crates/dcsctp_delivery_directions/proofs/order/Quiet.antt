@@ -1,7 +1,7 @@
 -- What the receiver of a direction has, with the streams that are quiet: it has reset them, and their
 -- messages aren't numbered from 0 yet. Their sender has handed them out for a reset, and sends nothing
 -- on them.
-use Rattle.std.proofs.Common.{◌≡◌, ℕ, Bool, true, false, ◌<◌, ◌≤◌, ◌+◌, ◌-◌, ◌%◌, ◌^◌, List, [], ◌∷◌, ◌++◌, length, refl, sym, ◌∙◌, ap, arith, subst, inl, inr}
+use Rattle.std.proofs.Common.{◌≡◌, ℕ, Bool, true, false, ◌<◌, ◌≤◌, ◌+◌, ◌-◌, ◌%◌, ◌^◌, List, [], ◌∷◌, ◌++◌, length, refl, sym, ◌∙◌, ap, arith, subst, inl, inr, Option, None, is_some}
 use Rattle.std.specs.Prelude.{◌⊎◌, ◌||◌, not, Some}
 use Rattle.std.proofs.lemmas.List.{length-append}
 use Rattle.dcsctp_spec_lemmas.specs.types.queues.Messages.{MessageContent}
@@ -11,13 +11,13 @@ use Rattle.dcsctp_spec_lemmas.specs.spec.queues.Incoming.{IncomingModel, stream_
 use Rattle.dcsctp_spec_lemmas.specs.spec.queues.IncomingStreams.{new_stream}
 use Rattle.dcsctp_spec_lemmas.specs.spec.queues.Numbers.{is_tsn_beyond}
 use Rattle.dcsctp_spec_lemmas.specs.spec.queues.Reassembly.{ReassemblyState, names_stream, waiting_of, skips_of, EndsDeferral}
-use Rattle.dcsctp_spec_lemmas.specs.spec.queues.Tracker.{TrackerState}
+use Rattle.dcsctp_spec_lemmas.specs.spec.queues.Tracker.{TrackerState, has_received}
 use Rattle.dcsctp_delivery_directions.specs.sending.Places.{HasEntry, at_place}
-use Rattle.dcsctp_delivery_directions.specs.sending.Log.{Message, Slot, Mark, History, sent_messages}
+use Rattle.dcsctp_delivery_directions.specs.sending.Log.{Message, Slot, Mark, History, sent_messages, Piece, newest_on, IsEndOrLimited}
 use Rattle.dcsctp_delivery_directions.specs.sending.Numbers.{is_handed_out, stream_named}
 use Rattle.dcsctp_delivery_directions.proofs.sending.Extended.{at_more}
 use Rattle.dcsctp_delivery_directions.specs.receiving.Clear.{NoneSkips, NoneWaits, IsClear, IsOver, IsOwn}
-use Rattle.dcsctp_delivery_directions.specs.receiving.Ready.{AreDistinct, WereQueued}
+use Rattle.dcsctp_delivery_directions.specs.receiving.Ready.{AreDistinct, WereQueued, ordered_base}
 use Rattle.dcsctp_delivery_directions.specs.receiving.Received.{kept_entries, HasReceived, Few}
 use Rattle.dcsctp_delivery_directions.specs.receiving.Tracked.{tracked_number}
 use Rattle.dcsctp_delivery_directions.proofs.receiving.Clear.{left_clear, clear_through_resets}
@@ -31,9 +31,13 @@ use Rattle.dcsctp_delivery_directions.proofs.directions.Receiving.{known_log, kn
 use Rattle.dcsctp_delivery_directions.proofs.directions.Standing.{Stands}
 use Rattle.dcsctp_delivery_directions.specs.order.Epochs.{SendsEpochsInTurn}
 use Rattle.dcsctp_delivery_directions.specs.order.Received.{HasReceivedInOrder}
-use Rattle.dcsctp_delivery_directions.proofs.order.Ending.{quiet_with, ends_in_order}
+use Rattle.dcsctp_delivery_directions.proofs.order.Ending.{quiet_with, ends_in_order, NamedAreReadOf}
 use Rattle.dcsctp_delivery_directions.proofs.order.Taken.{received_later}
 use Rattle.dcsctp_delivery_directions.specs.order.Reading.{Watch, ComeSince}
+use Rattle.dcsctp_delivery_directions.specs.order.Incoming.{SendsNoMore, IsOrderedOrReset}
+use Rattle.dcsctp_delivery_directions.proofs.receiving.Tracked.{up_to}
+use Rattle.dcsctp_delivery_directions.proofs.order.AllSent.{not_later, all_sent_are_read}
+use Rattle.dcsctp_spec.specs.types.declared.sending.UnderWay.{UnderWay}
 
 -- The stream is handed out, all its pieces came before a reset up to which all was received, and it is clear.
 pub record IsSilent (history : History) (first cumulative : ℕ) (streams : List Stream) (reassembly : ReassemblyState) (id : ℕ) : Type 0 where
@@ -83,10 +87,13 @@ module _ (watch : ℕ → Watch) (first : ℕ) (history later : History) (before
         quiet = a.quiet;
         received = received_later queued more history later
             (record { stays = stays; current = λ n f at is. subst (λ (floors : ℕ → Bool → ℕ). floors f.message.stream f.message.is_unordered ≤ f.mid) (sym c.floors) is; longer = longer; marks = c.marks })
-            (record { stays = stays; floors = c.floors }) a.quiet a.places read a.were watch fresh first tracker reassembly a.received;
+            (record { stays = stays; floors = c.floors }) a.quiet a.places read a.were watch fresh no_more first tracker reassembly a.received;
         silent = silent_later a.quiet tracker.cumulative reassembly a.silent;
       }
     where
+      no_more : (id : ℕ) → a.quiet id ≡ true → SendsNoMore history later id
+      no_more id is n f at on = not_new c.more history.log after id n f c.kept (c.stay id (a.silent id is).handed) on (ap (λ (l : List Slot). at_place n l) (sym c.log) ∙ at)
+
       stays : (n : ℕ) (slot : Slot) → at_place n history.log ≡ Some slot → at_place n later.log ≡ Some slot
       stays n slot at = ap (λ (l : List Slot). at_place n l) c.log ∙ at_more c.more history.log n slot at
 
@@ -106,7 +113,7 @@ named_new id (one ∷ others) old between named resets = resets.streams id ∙ r
 
 module _ (watch : ℕ → Watch) (first : ℕ) (old : Direction) (small : first < 2 ^ 32) (s : Stands first old) (turns : (id : ℕ) → SendsEpochsInTurn (watch id).asks old.queued s.history id) (little : length s.history.log < 2 ^ 31) (interleaved : old.queues.queue.is_interleaved ≡ true)
     (newest : BegunReset) (earlier : List BegunReset) (new : ReassemblyState) (asks : old.asking.requests ≡ newest ∷ earlier) (some : 0 < old.asking.out) (named : NamedAreOut s.history old.asking.out old.queues.queue.streams)
-    (reached : is_reset_reached newest.reset old.tracker ≡ true) (own : IsOwn newest.reset old.reassembly.deferral) (leaves : EndsDeferral newest.reset.streams old.reassembly new) where
+    (reached : is_reset_reached newest.reset old.tracker ≡ true) (own : IsOwn newest.reset old.reassembly.deferral) (leaves : EndsDeferral newest.reset.streams old.reassembly new) (window : (id : ℕ) → (watch id).knows_all ≡ true → old.reassembly.max_size ≤ 2 ^ 63) where
   abbrev m : IsNewest s.history.marks newest
   m = newest_of s.history.marks newest earlier (sym s.asked ∙ asks)
 
@@ -144,6 +151,34 @@ module _ (watch : ℕ → Watch) (first : ℕ) (old : Direction) (small : first 
       none_kept s.history first id m.mark (known_kinds first old small s interleaved) few has within o.names o.below old.reassembly.deferral (s.queues.marks m.mark has).last
       (subst (λ (b : BegunReset). IsOwn b.reset old.reassembly.deferral) (sym m.begins) own) all.forwards
 
+  -- nothing is under way on a stream that is handed out
+  rests_on : (id : ℕ) → is_handed_out (stream_named id old.queues.queue.streams).pause ≡ true → (f : Piece) → newest_on id s.history.log ≡ Some f → IsEndOrLimited f
+  rests_on id handed f at = s.queues.numbers.rests id (go (stream_named id old.queues.queue.streams).under_way refl) f at
+    where
+      go : (u : Option UnderWay) → (stream_named id old.queues.queue.streams).under_way ≡ u → (stream_named id old.queues.queue.streams).under_way ≡ None
+      go None is = is
+      go (Some u) is = absurd (let clash : true ≡ false = sym handed ∙ s.queues.numbers.kept id (ap is_some is) in cc)
+
+  -- all that was sent on its streams is read
+  named_are_read : (a : Arrives watch first s.history old.queued old.read old.tracker old.reassembly old.queues.queue.streams)
+      → NamedAreReadOf watch old.queued s.history first s.queues.cut (known_log first old small s little) few turns a.places a.quiet a.received.got newest.reset.streams old.reassembly.incoming
+  named_are_read a now same base o id names loud counts knows unlimited =
+      all_sent_are_read (watch id) old.queued s.history s.queues.cut (known_log first old small s little) id counts (rests_on id (out id names).handed) now (ordered_base base) (a.places ++ o.holds.places) (o.holds.waits id)
+      (stream_on id old.reassembly.incoming.streams) (o.holds.streams_hold id).rows.ordered
+      (subst (λ (b : Bool). IsOrderedOrReset (watch id) b (sent_messages old.queued s.history) id (a.places ++ o.holds.places) (o.holds.waits id) (stream_on id old.reassembly.incoming.streams)) loud (o.order id counts))
+      handled unlimited (o.parts id counts unlimited loud)
+    where
+      handled : (n : ℕ) (f : Piece) → at_place n s.history.log ≡ Some (Some f) → f.message.stream ≡ id → f.message.is_limited ≡ false → HasEntry n now
+      handled n f at on free =
+          let below = (out id names).below n f at on in
+          let up = passed in
+          let received : has_received old.tracker (tracked_number first n) ≡ true = up_to old.tracker.cumulative (tracked_number first n) old.tracker.ranges (omega (arith, below, up)) in
+          let taken = a.received.exact (window id knows) n (record { piece = f; at = at; free = free; known = ap (λ (k : ℕ). (watch k).knows_all) on ∙ knows }) received in
+          elim (a.received.either n taken) [
+            | inl g ↦ subst (λ (l : List ℕ). HasEntry n l) (sym same) g
+            | inr l ↦ absurd (not_later s.history first id a.received.later (waiting_of old.reassembly.deferral) a.received.defers (no_data id (out id names)) n f l at on)
+          ]
+
   pub performing_arrives : Arrives watch first s.history old.queued old.read old.tracker old.reassembly old.queues.queue.streams → Arrives watch first s.history old.queued old.read old.tracker new old.queues.queue.streams
   performing_arrives a =
       record {
@@ -154,7 +189,7 @@ module _ (watch : ℕ → Watch) (first : ℕ) (old : Direction) (small : first 
         received = ends_in_order watch old.queued s.history first s.queues.cut (known_log first old small s little) few turns a.places a.quiet newest.reset.streams old.tracker old.reassembly new
             (λ id is. elim (either_quiet (a.quiet id) (names_stream newest.reset.streams id) is) [ inl was ↦ (a.silent id was).clear.none | inr names ↦ no_data id (out id names) ])
             (λ id is. elim (either_quiet (a.quiet id) (names_stream newest.reset.streams id) is) [ inl was ↦ (a.silent id was).clear.kept | inr names ↦ no_skips id (out id names) ])
-            all.forwards a.received leaves;
+            all.forwards a.received (named_are_read a) leaves;
         silent = λ id is. elim (either_quiet (a.quiet id) (names_stream newest.reset.streams id) is) [
           | inl was ↦ (let q = a.silent id was in record { handed = q.handed; over = q.over; clear = clear_through_resets id newest.reset.streams old.reassembly new q.clear leaves })
           | inr names ↦

@@ -13,18 +13,21 @@ use Rattle.dcsctp_delivery_directions.specs.sending.Log.{Message, Piece, History
 use Rattle.dcsctp_delivery_directions.specs.sending.Numbers.{AreOfKind, CountsMessages, IsCurrent, is_handed_out, stream_named}
 use Rattle.dcsctp_delivery_directions.specs.sending.Queueing.{floors_raised}
 use Rattle.dcsctp_delivery_directions.specs.receiving.Clear.{IsClear, IsOver, Unsent}
-use Rattle.dcsctp_delivery_directions.specs.receiving.Ready.{WaitQueued, HoldsIncoming}
+use Rattle.dcsctp_delivery_directions.specs.receiving.Ready.{WaitQueued, HoldsIncoming, ordered_base}
 use Rattle.dcsctp_delivery_directions.proofs.receiving.Raising.{KeptOr, kept_or_clear, holds_keeps, defers_keeps}
 use Rattle.dcsctp_delivery_directions.specs.order.Order.{IsSentAs, IsReadAs, AreReadAs}
 use Rattle.dcsctp_delivery_directions.specs.order.Epochs.{SendsEpochsInTurn}
 use Rattle.dcsctp_delivery_directions.specs.order.Reading.{CountsFromZero, OrderedStream, Watch}
 use Rattle.dcsctp_delivery_directions.specs.order.Incoming.{IsOrderedOrReset, IncomingOrdered}
 use Rattle.dcsctp_delivery_directions.specs.order.Received.{none_quiet, ReassemblesInOrder, none_handled, some_handled, HasReceivedInOrder}
-use Rattle.dcsctp_delivery_directions.proofs.order.Incoming.{quiet_where, separated_where, no_gap_where}
+use Rattle.dcsctp_delivery_directions.proofs.order.Incoming.{quiet_where, no_gap_where}
 use Rattle.dcsctp_delivery_directions.proofs.order.Epochs.{whole_by_epoch}
 use Rattle.dcsctp_delivery_directions.proofs.order.Order.{resets_stay}
 use Rattle.dcsctp_delivery_directions.proofs.order.Received.{loud_by}
 use Rattle.dcsctp_delivery_directions.proofs.order.Unsent.{unsent_ordered}
+use Rattle.dcsctp_delivery_directions.specs.order.Parts.{AreUnlimitedSince, HoldsParts}
+use Rattle.dcsctp_delivery_directions.proofs.order.HeldParts.{parts_none, parts_anew, parts_floors}
+use Rattle.dcsctp_delivery_directions.specs.order.Queue.{Cut, AreSeparated}
 
 -- ---- a stream whose floor is raised
 
@@ -89,7 +92,18 @@ module _ (queued : List Message) (history : History) (floors : ℕ → Bool → 
 module _ (watch : ℕ → Watch) (queued : List Message) (history : History) (streams : List Stream) (cut : IsLogOfPieces queued history.log) (kinds : AreOfKind true history.log) (counts : (id : ℕ) → CountsFromZero history id) (turns : (id : ℕ) → SendsEpochsInTurn (watch id).asks queued history id) (quiet : ℕ → Bool)
     (silent : (id : ℕ) → quiet id ≡ true → is_handed_out (stream_named id streams).pause ≡ true) (first cumulative : ℕ) (reassembly : ReassemblyState)
     (out : (id : ℕ) → is_handed_out (stream_named id streams).pause ≡ true → Unsent history.log id ⊎ (IsOver history first cumulative id × IsClear id reassembly))
-    (none_current : (id : ℕ) → is_handed_out (stream_named id streams).pause ≡ true → (n : ℕ) (f : Piece) → at_place n history.log ≡ Some (Some f) → f.message.stream ≡ id → IsCurrent (floors_raised streams history) f → ⊥) where
+    (none_current : (id : ℕ) → is_handed_out (stream_named id streams).pause ≡ true → (n : ℕ) (f : Piece) → at_place n history.log ≡ Some (Some f) → f.message.stream ≡ id → IsCurrent (floors_raised streams history) f → ⊥) (cuts : ℕ → List Cut)
+    (cuts_kept : (id : ℕ) → is_handed_out (stream_named id streams).pause ≡ false → cuts id ≡ (watch id).cuts) where
+  -- what is watched once it has ended
+  abbrev watch_now : ℕ → Watch
+  watch_now id = record (watch id) { cuts = cuts id }
+
+  -- Of each stream that is handed out, the end of its reset separates what was queued before.
+  abbrev EndsSeparate : List ℕ → List ℕ → Type 0
+  EndsSeparate got read =
+      (base : ℕ) (o : IncomingOrdered watch (sent_messages queued history) quiet got base read reassembly.incoming) (id : ℕ) → is_handed_out (stream_named id streams).pause ≡ true
+      → AreSeparated (watch id).asks queued id (cuts id) (read ++ o.holds.places)
+
   abbrev raised : History
   raised = floors_raised streams history
 
@@ -111,44 +125,57 @@ module _ (watch : ℕ → Watch) (queued : List Message) (history : History) (st
       let few = (counts id).few n f at on ordered in
       subst (λ (b : Bool). f.mid < (if b then 2 ^ 32 * (history.floors id false + length history.log + 1) else history.floors id false)) (sym handed) (omega (arith, few))
 
-  ordered_raised : (got : List ℕ) (base : ℕ) (read : List ℕ) → IncomingOrdered watch (sent_messages queued history) quiet got base read reassembly.incoming → IncomingOrdered watch (sent_messages queued raised) none_quiet got base read reassembly.incoming
+  ordered_raised : (got : List ℕ) (base : ℕ) (read : List ℕ) → EndsSeparate got read → IncomingOrdered watch (sent_messages queued history) quiet got base read reassembly.incoming → IncomingOrdered watch_now (sent_messages queued raised) none_quiet got base read reassembly.incoming
   unfolding holds_raised holds_keeps
-  ordered_raised got base read o =
+  ordered_raised got base read recut o =
       record {
         holds = holds_raised got base read o.holds;
         order = λ id anew. by_pause id (is_handed_out (stream_named id streams).pause) refl;
+        within = o.within;
+        parts = λ id anew unlimited loud. parts_by_pause id (is_handed_out (stream_named id streams).pause) refl unlimited;
       }
     where
-      renewed : (id : ℕ) → is_handed_out (stream_named id streams).pause ≡ true → IsClear id reassembly → OrderedStream (watch id) queued raised id (read ++ o.holds.places) (o.holds.waits id) (stream_on id reassembly.incoming.streams)
+      parts_by_pause : (id : ℕ) (b : Bool) → is_handed_out (stream_named id streams).pause ≡ b → AreUnlimitedSince raised id → HoldsParts raised got id (stream_on id reassembly.incoming.streams)
+      parts_by_pause id true handed unlimited = elim (out id handed) [
+        | inl none ↦ parts_none raised got (ordered_base base) id (stream_on id reassembly.incoming.streams) ((holds_raised got base read o.holds).streams_hold id).rows.ordered none
+        | inr c ↦ subst (λ (s : StreamModel). HoldsParts raised got id s) (sym c.1.stream) (parts_anew raised got id (λ n f is has. none_current id handed n f is.at is.stream is.current))
+      ]
+      parts_by_pause id false shut unlimited =
+          let loud : quiet id ≡ false = loud_by quiet id (λ is. (let clash : true ≡ false = sym (silent id is) ∙ shut in cc)) in
+          let same_each : ((b : Bool) → raised.floors id b ≡ history.floors id b) =
+          λ b. subst (λ (c : Bool). (if c then 2 ^ 32 * (history.floors id b + length history.log + 1) else history.floors id b) ≡ history.floors id b) (sym shut) refl in
+          parts_floors history raised.floors got id (stream_on id reassembly.incoming.streams) same_each (λ before same. o.parts id (counts id) before loud) unlimited refl
+
+      renewed : (id : ℕ) → is_handed_out (stream_named id streams).pause ≡ true → IsClear id reassembly → OrderedStream (watch_now id) queued raised id (read ++ o.holds.places) (o.holds.waits id) (stream_on id reassembly.incoming.streams)
       renewed id handed clear =
           let none : o.holds.waits id ≡ [] = no_waits got id (o.holds.waits id) (subst (λ (s : StreamModel). WaitQueued queued history got id (o.holds.waits id) s.waiting) clear.stream (o.holds.streams_hold id).wait) in
           let between = quiet_where (watch id) queued history (quiet id) id (read ++ o.holds.places) (o.holds.waits id) (stream_on id reassembly.incoming.streams) (o.order id (counts id)) in
-          subst (λ (l : List ℕ). OrderedStream (watch id) queued raised id (read ++ o.holds.places) l (stream_on id reassembly.incoming.streams)) (sym none)
-          (subst (λ (s : StreamModel). OrderedStream (watch id) queued raised id (read ++ o.holds.places) [] s) (sym clear.stream)
+          subst (λ (l : List ℕ). OrderedStream (watch_now id) queued raised id (read ++ o.holds.places) l (stream_on id reassembly.incoming.streams)) (sym none)
+          (subst (λ (s : StreamModel). OrderedStream (watch_now id) queued raised id (read ++ o.holds.places) [] s) (sym clear.stream)
           (record {
             order = resets_stay queued history id (read ++ o.holds.places) raised.floors (above id handed) between;
             reach = record { from = omega arith; up_to = omega arith };
             by_epoch = whole_by_epoch (watch id).asks queued raised id (read ++ o.holds.places)
                 (no_gap_where (watch id) queued history (quiet id) id (read ++ o.holds.places) (o.holds.waits id) (stream_on id reassembly.incoming.streams) (counts id) (turns id) (o.order id (counts id)));
-            separated = separated_where (watch id) queued history (quiet id) id (read ++ o.holds.places) (o.holds.waits id) (stream_on id reassembly.incoming.streams) (o.order id (counts id));
+            separated = recut base o id handed;
             since = λ cut has n f at on current. absurd (none_current id handed n f at on current);
           }))
 
-      by_pause : (id : ℕ) (b : Bool) → is_handed_out (stream_named id streams).pause ≡ b → OrderedStream (watch id) queued raised id (read ++ o.holds.places) (o.holds.waits id) (stream_on id reassembly.incoming.streams)
+      by_pause : (id : ℕ) (b : Bool) → is_handed_out (stream_named id streams).pause ≡ b → OrderedStream (watch_now id) queued raised id (read ++ o.holds.places) (o.holds.waits id) (stream_on id reassembly.incoming.streams)
       by_pause id true handed = elim (out id handed) [
-        | inl none ↦ unsent_ordered queued raised id cut kinds none (watch id) got base read reassembly.incoming (holds_raised got base read o.holds)
-            (separated_where (watch id) queued history (quiet id) id (read ++ o.holds.places) (o.holds.waits id) (stream_on id reassembly.incoming.streams) (o.order id (counts id)))
+        | inl none ↦ unsent_ordered queued raised id cut kinds none (watch_now id) got base read reassembly.incoming (holds_raised got base read o.holds) (recut base o id handed)
         | inr c ↦ renewed id handed c.1
       ]
       by_pause id false shut =
           let loud : quiet id ≡ false = loud_by quiet id (λ is. (let clash : true ≡ false = sym (silent id is) ∙ shut in cc)) in
           let same_each : ((b : Bool) → raised.floors id b ≡ history.floors id b) =
           λ b. subst (λ (c : Bool). (if c then 2 ^ 32 * (history.floors id b + length history.log + 1) else history.floors id b) ≡ history.floors id b) (sym shut) refl in
-          ordered_now queued history raised.floors id same_each (watch id) (read ++ o.holds.places) (o.holds.waits id) (stream_on id reassembly.incoming.streams)
-          (subst (λ (b : Bool). IsOrderedOrReset (watch id) b (sent_messages queued history) id (read ++ o.holds.places) (o.holds.waits id) (stream_on id reassembly.incoming.streams)) loud (o.order id (counts id)))
+          subst (λ (cs : List Cut). OrderedStream (record (watch id) { cuts = cs }) queued raised id (read ++ o.holds.places) (o.holds.waits id) (stream_on id reassembly.incoming.streams)) (sym (cuts_kept id shut))
+          (ordered_now queued history raised.floors id same_each (watch id) (read ++ o.holds.places) (o.holds.waits id) (stream_on id reassembly.incoming.streams)
+          (subst (λ (b : Bool). IsOrderedOrReset (watch id) b (sent_messages queued history) id (read ++ o.holds.places) (o.holds.waits id) (stream_on id reassembly.incoming.streams)) loud (o.order id (counts id))))
 
-  pub raised_in_order : (read : List ℕ) (tracker : TrackerState) → HasReceivedInOrder watch (sent_messages queued history) quiet first read tracker reassembly → HasReceivedInOrder watch (sent_messages queued raised) none_quiet first read tracker reassembly
-  raised_in_order read tracker r =
+  pub raised_in_order : (read : List ℕ) (tracker : TrackerState) → (r : HasReceivedInOrder watch (sent_messages queued history) quiet first read tracker reassembly) → ((got : List ℕ) → got ≡ r.got → EndsSeparate got read) → HasReceivedInOrder watch_now (sent_messages queued raised) none_quiet first read tracker reassembly
+  raised_in_order read tracker r recut =
       record {
         taken = r.taken;
         got = r.got;
@@ -156,12 +183,14 @@ module _ (watch : ℕ → Watch) (queued : List Message) (history : History) (st
         tracks = r.tracks;
         got_taken = r.got_taken;
         later_taken = r.later_taken;
+        either = r.either;
+        exact = λ small k is. r.exact small k (record { piece = is.piece; at = is.at; free = is.free; known = is.known });
         apart = r.apart;
         distinct = r.distinct;
         holds = go r.holds;
         defers = defers_keeps queued history streams first r.later (waiting_of reassembly.deferral) (λ id. elim (kept id) [ inl keep ↦ inl keep | inr c ↦ inr c.1.none ]) r.defers;
       }
     where
-      go : ReassemblesInOrder watch (sent_messages queued history) quiet first r.got read reassembly.incoming → ReassemblesInOrder watch (sent_messages queued raised) none_quiet first r.got read reassembly.incoming
-      go (none_handled none last empty) = none_handled none last (λ base. ordered_raised [] base read (empty base))
-      go (some_handled base is holds) = some_handled base is (ordered_raised r.got base read holds)
+      go : ReassemblesInOrder watch (sent_messages queued history) quiet first r.got read reassembly.incoming → ReassemblesInOrder watch_now (sent_messages queued raised) none_quiet first r.got read reassembly.incoming
+      go (none_handled none last empty) = none_handled none last (λ base. ordered_raised [] base read (recut [] (sym none)) (empty base))
+      go (some_handled base is holds) = some_handled base is (ordered_raised r.got base read (recut r.got refl) holds)

@@ -1,5 +1,5 @@
 -- A chunk of data whose TSN is new, in order.
-use Rattle.std.proofs.Common.{◌≡◌, ◌≢◌, ◌≤◌, ℕ, Bool, true, false, List, ◌∷◌, ◌++◌, refl, sym, ◌∙◌, ap, subst, inl, inr}
+use Rattle.std.proofs.Common.{◌≡◌, ◌≢◌, ◌≤◌, ℕ, Bool, true, false, List, ◌∷◌, ◌++◌, refl, sym, ◌∙◌, ap, subst, inl, inr, ◌+◌, ◌^◌, ◌<◌, arith}
 use Rattle.dcsctp_spec_lemmas.specs.types.queues.Messages.{MessageContent}
 use Rattle.dcsctp_spec_lemmas.specs.types.declared.arrivals.Numbering.{Numbering}
 use Rattle.dcsctp_spec_lemmas.specs.types.declared.arrivals.Numbering.TheVariants.{Ordered, Unordered, InterleavedOrdered, InterleavedUnordered}
@@ -9,11 +9,11 @@ use Rattle.dcsctp_spec_lemmas.specs.spec.queues.Runs.{RunModel, WholeModel, Asse
 use Rattle.dcsctp_spec_lemmas.specs.spec.queues.IncomingStreams.{StreamModel, ChunkModel, data_part, delivered_as, UnorderedOutcome, TakesAhead, TakesInOrder, TakesOutOfOrder, is_number_waiting, TakesNumberedPart, numbered_part}
 use Rattle.dcsctp_spec_lemmas.specs.spec.queues.Incoming.{IncomingModel, stream_on, TakesChunk, TakesIncomingChunk}
 use Rattle.dcsctp_delivery_directions.specs.sending.Places.{HasEntry, table_with}
-use Rattle.dcsctp_delivery_directions.specs.sending.Log.{Message, History, IsLogOfPieces, sent_messages}
+use Rattle.dcsctp_delivery_directions.specs.sending.Log.{Message, History, IsLogOfPieces, sent_messages, Piece}
 use Rattle.dcsctp_delivery_directions.specs.receiving.Rows.{IsPiecePlaced, IsPart, AreRows, Spent, MakesQueued}
 use Rattle.dcsctp_delivery_directions.specs.receiving.Ready.{IsOn, IsApart, IsOfStream, ReadsMids, ordered_base, unordered_base, StreamRows, AreDistinct, WaitQueued, StreamHolds, IsNumbered, BearsPiece, held_messages}
-use Rattle.dcsctp_delivery_directions.proofs.sending.Places.{decide, set_same, set_other}
-use Rattle.dcsctp_delivery_directions.proofs.receiving.Chaining.{one_kind}
+use Rattle.dcsctp_delivery_directions.proofs.sending.Places.{decide, set_same, set_other, at_below}
+use Rattle.dcsctp_delivery_directions.proofs.receiving.Chaining.{one_kind, placed_interleaved}
 use Rattle.dcsctp_delivery_directions.proofs.receiving.SpentRows.{stay_rows, rows_got, spent_got, was_handled, of_message, IsOfMessage}
 use Rattle.dcsctp_delivery_directions.proofs.receiving.Distinct.{distinct_left, distinct_apart, appended, has_either, has_right}
 use Rattle.dcsctp_delivery_directions.proofs.receiving.Waiting.{OfStream, renamed, wait_spent, wait_got, stream_rows_got, stream_got}
@@ -25,11 +25,15 @@ use Rattle.std.specs.Prelude.{Some}
 use Rattle.std.proofs.lemmas.List.{append-nil}
 use Rattle.dcsctp_delivery_directions.specs.order.Queue.{IsOrderedOn}
 use Rattle.dcsctp_delivery_directions.specs.order.Order.{IsReadAs}
-use Rattle.dcsctp_delivery_directions.specs.order.Reading.{CountsFromZero, OrderedStream, Watch}
+use Rattle.dcsctp_delivery_directions.specs.order.Reading.{CountsFromZero, OrderedStream, Watch, IsSince}
 use Rattle.dcsctp_delivery_directions.specs.order.Incoming.{IsOrderedOrReset, HoldsOrdered, IncomingOrdered}
 use Rattle.dcsctp_delivery_directions.proofs.order.Leaving.{others_where}
-use Rattle.dcsctp_delivery_directions.proofs.order.Reading.{mids_are_read, numbers_are_fresh}
+use Rattle.dcsctp_delivery_directions.proofs.order.Reading.{mids_are_read, numbers_are_fresh, mids_counted}
 use Rattle.dcsctp_delivery_directions.proofs.order.Leaving.{IsOnIt, one_stream, wait_on_it, LeavesOrder, none_left, ordered_left, apart_left, alike_ordered}
+use Rattle.dcsctp_delivery_directions.specs.order.Parts.{AreUnlimitedSince, HoldsParts}
+use Rattle.dcsctp_delivery_directions.proofs.order.HeldParts.{parts_alike, parts_else, parts_taken}
+use Rattle.dcsctp_delivery_directions.specs.order.Rising.{IsAhead}
+use Rattle.dcsctp_delivery_directions.proofs.order.Rising.{parts_deliver_rows}
 
 -- ---- a chunk
 
@@ -65,12 +69,17 @@ module _ (watch : ℕ → Watch) (queued : List Message) (history : History) (qu
         subst (λ (l : List ℕ). IsOrderedOrReset (watch other) (quiet other) (sent_messages queued history) other l (o.holds.waits other) (streams other)) (all_then more)
         (others_where (watch other) queued history (quiet other) other all (o.holds.waits other) more (streams other) (λ place h is. ne (sym (one_stream queued id other place (on place h) (is.message, is.at, is.stream)))) (o.order other counts))
 
+    -- the piece of its TSN
+    its_piece : (id : ℕ) (f : Piece) → IsSince history id bears.offset f → f ≡ bears.piece
+    its_piece id f since = (let two : Some (Some f) ≡ Some (Some bears.piece) = sym since.at ∙ bears.at in cc)
+
     -- the invariant once its stream is left so
     holds_then : (id : ℕ) → quiet id ≡ false → (later : ℕ → StreamModel) (runs : List RunModel) (after : List MessageContent) → StreamRows history now base id (later id)
         → AreRows history.log now (unordered_base base) IsOfStream runs → ((other : ℕ) → other ≢ id → later other ≡ streams other) → LeavesOrder (watch id) queued history now all o.holds.places id (later id) after
+        → id ≡ chunk.stream → (CountsFromZero history id → AreUnlimitedSince history id → HoldsParts history now id (later id))
         → HoldsOrdered watch (sent_messages queued history) quiet now base read (held_messages later runs after)
     unfolding all
-    holds_then id loud later runs after rows apart others leaves =
+    holds_then id loud later runs after rows apart others leaves home parts =
         record {
           holds = record {
             waits = table_with id leaves.waits o.holds.waits;
@@ -111,6 +120,14 @@ module _ (watch : ℕ → Watch) (queued : List Message) (history : History) (qu
                 (subst (λ (s : StreamModel). IsOrderedOrReset (watch other) (quiet other) (sent_messages queued history) other (read ++ (o.holds.places ++ leaves.more)) (o.holds.waits other) s) (sym (others other ne))
                 (others_then id other leaves.more leaves.on ne counts))
           ];
+          within = λ n has. elim has [ inl e ↦ (let below = at_below bears.offset (Some bears.piece) history.log bears.at in omega (arith, e, below)) | inr t ↦ o.within n t ];
+          parts = λ other counts unlimited aloud'. elim (decide other id) [
+            | inl e ↦ subst (λ (k : ℕ). HoldsParts history now k (later k)) (sym e) (parts (subst (λ (k : ℕ). CountsFromZero history k) e counts) (subst (λ (k : ℕ). AreUnlimitedSince history k) e unlimited))
+            | inr ne ↦
+                subst (λ (s : StreamModel). HoldsParts history now other s) (sym (others other ne))
+                (parts_else history got other (streams other) bears.offset
+                (λ f since number counted up. ne (sym since.stream ∙ ap (λ (x : Piece). x.message.stream) (its_piece other f since) ∙ sym bears.stream ∙ sym home)) (o.parts other counts unlimited aloud'))
+          ];
         }
 
     -- its stream is in order, and stays so where nothing changes
@@ -144,33 +161,41 @@ module _ (watch : ℕ → Watch) (queued : List Message) (history : History) (qu
 
     -- nothing changes
     passed : (later : ℕ → StreamModel) (runs : List RunModel) (after : List MessageContent) → runs ≡ unordered → ((other : ℕ) → other ≢ chunk.stream → later other ≡ streams other)
-        → later chunk.stream ≡ streams chunk.stream → after ≡ ready → HoldsOrdered watch (sent_messages queued history) quiet now base read (held_messages later runs after)
+        → later chunk.stream ≡ streams chunk.stream → after ≡ ready
+        → (CountsFromZero history chunk.stream → (number : ℕ) → bears.piece.mid + 2 ^ 32 ≡ history.floors chunk.stream false + number → (streams chunk.stream).next ≤ number → ⊥) → HoldsOrdered watch (sent_messages queued history) quiet now base read (held_messages later runs after)
     unfolding all
-    passed later runs after kept others same same' =
+    passed later runs after kept others same same' none =
         holds_then chunk.stream aloud later runs after (subst (λ (s : StreamModel). StreamRows history now base chunk.stream s) (sym same) here_rows) (rows_kept runs kept) others
         (none_left (watch chunk.stream) queued history now all o.holds.places (o.holds.waits chunk.stream) chunk.stream (later chunk.stream) ready after o.holds.were_queued
         (subst (λ (s : StreamModel). WaitQueued queued history now chunk.stream (o.holds.waits chunk.stream) s.waiting) (sym same) here_wait) (o.holds.once chunk.stream) same'
         (λ counts. subst (λ (l : List ℕ). OrderedStream (watch chunk.stream) queued history chunk.stream l (o.holds.waits chunk.stream) (later chunk.stream)) (sym (append-nil all))
-        (same_order (later chunk.stream) (ap (λ (s : StreamModel). s.next) same) (ap (λ (s : StreamModel). s.waiting) same) counts)))
+        (same_order (later chunk.stream) (ap (λ (s : StreamModel). s.next) same) (ap (λ (s : StreamModel). s.waiting) same) counts))) refl
+        (λ counts unlimited. subst (λ (s : StreamModel). HoldsParts history now chunk.stream s) (sym same)
+        (parts_else history got chunk.stream (streams chunk.stream) bears.offset
+        (λ f since number counted up. none counts number (subst (λ (x : Piece). x.mid + 2 ^ 32 ≡ history.floors chunk.stream false + number) (its_piece chunk.stream f since) counted) up) (o.parts chunk.stream counts unlimited aloud)))
 
     -- an ordered chunk
     ahead : (place number : ℕ) (later : ℕ → StreamModel) (runs : List RunModel) (after : List MessageContent) (taken : Taken) → IsPiecePlaced (ordered_base base) bears.offset bears.piece number place → IsOn history chunk.stream bears.piece number
-        → (CountsFromZero history chunk.stream → IsReadAs history chunk.stream bears.piece.place number) → (CountsFromZero history chunk.stream → (streams chunk.stream).next ≤ number)
+        → (CountsFromZero history chunk.stream → IsReadAs history chunk.stream bears.piece.place number) → (CountsFromZero history chunk.stream → bears.piece.mid + 2 ^ 32 ≡ history.floors chunk.stream false + number) → (CountsFromZero history chunk.stream → (streams chunk.stream).next ≤ number)
         → runs ≡ unordered → ((other : ℕ) → other ≢ chunk.stream → later other ≡ streams other)
         → TakesAhead (data_part chunk place number) (streams chunk.stream) ready taken (later chunk.stream) after → HoldsOrdered watch (sent_messages queued history) quiet now base read (held_messages later runs after)
     unfolding all here
-    ahead place number later runs after taken placed named reads from kept others takes = go (is_number_waiting number (streams chunk.stream).waiting) refl
+    ahead place number later runs after taken placed named reads exact from kept others takes = go (is_number_waiting number (streams chunk.stream).waiting) refl
       where
         part : IsPart history.log (ordered_base base) (IsOn history chunk.stream) (data_part chunk place number)
         part = part_of history base (ordered_base base) (IsOn history chunk.stream) tsn_number place number chunk bears placed named
 
         -- no message that waits has its number
+        ahead_of : CountsFromZero history chunk.stream → IsAhead (data_part chunk place number) (streams chunk.stream)
+        ahead_of counts =
+            numbers_are_fresh queued history chunk.stream bears.piece.place all (o.holds.waits chunk.stream) (data_part chunk place number) (streams chunk.stream) counts (here_order counts).order (reads counts)
+            (λ h. fresh chunk.stream (has_right bears.piece.place all (o.holds.waits chunk.stream) h)) (from counts)
+
         never : CountsFromZero history chunk.stream → is_number_waiting number (streams chunk.stream).waiting ≡ true → ⊥
-        never counts e =
-            let ahead_of = numbers_are_fresh queued history chunk.stream bears.piece.place all (o.holds.waits chunk.stream) (data_part chunk place number) (streams chunk.stream) counts (here_order counts).order (reads counts)
-            (λ h. fresh chunk.stream (has_right bears.piece.place all (o.holds.waits chunk.stream) h)) (from counts) in
-            let clash : true ≡ false = sym e ∙ ahead_of.fresh in
-            absurd (cc)
+        never counts e = (let clash : true ≡ false = sym e ∙ (ahead_of counts).fresh in absurd (cc))
+
+        since : CountsFromZero history chunk.stream → IsSince history chunk.stream bears.offset bears.piece
+        since counts = (let its = named.1 (counts.kinds bears.offset bears.piece bears.at) in record { at = bears.at; stream = sym bears.stream; ordered = its.0; current = its.2 })
 
         go : (b : Bool) → is_number_waiting number (streams chunk.stream).waiting ≡ b → HoldsOrdered watch (sent_messages queued history) quiet now base read (held_messages later runs after)
         go false e =
@@ -185,7 +210,10 @@ module _ (watch : ℕ → Watch) (queued : List Message) (history : History) (qu
               last = subst (λ (k : ℕ). ReadsMids history chunk.stream true k) (sym does.unordered.0) here.rows.last;
             }) (rows_kept runs kept) others
             (ordered_left (watch chunk.stream) queued history now all o.holds.places (o.holds.waits chunk.stream) chunk.stream bears.piece.place (data_part chunk place number) (streams chunk.stream) (later chunk.stream) ready after taken
-            (sym here.rows.is) o.holds.were_queued here_wait (o.holds.once chunk.stream) (fresh chunk.stream) here_order reads does rows.1 from)
+            (sym here.rows.is) o.holds.were_queued here_wait (o.holds.once chunk.stream) (fresh chunk.stream) here_order reads does rows.1 from) refl
+            (λ counts unlimited. parts_taken queued history cut told chunk.stream counts got (ordered_base base) (streams chunk.stream) here.rows.ordered bears.offset bears.piece (since counts) (data_part chunk place number) named (exact counts)
+            (placed_interleaved (ordered_base base) bears.offset bears.piece number place (counts.kinds bears.offset bears.piece bears.at) placed) (later chunk.stream) ready after taken is_new (from counts) (o.parts chunk.stream counts unlimited aloud) does
+            (parts_deliver_rows (data_part chunk place number) (streams chunk.stream) ready taken (later chunk.stream) after (here_order counts).order.ahead (ahead_of counts) does))
         go true e =
             let does = takes.repeated e in
             let rows = stay_rows queued history.log cut (one_kind history told) got (ordered_base base) (IsOn history chunk.stream) (λ m n f g k. tells_as history told false chunk.stream m n f g k) (data_part chunk place number) (streams chunk.stream).ordered (later chunk.stream).ordered does.ordered.outcome part here.rows.ordered does.ordered.parts in
@@ -200,16 +228,19 @@ module _ (watch : ℕ → Watch) (queued : List Message) (history : History) (qu
             (apart_left (watch chunk.stream) queued history now all o.holds.places (o.holds.waits chunk.stream) (streams chunk.stream).id chunk.stream bears.piece.place (data_part chunk place number) (later chunk.stream) ready after does.ordered.outcome taken
             (sym here.rows.is) o.holds.were_queued (subst (λ (l : List WholeModel). WaitQueued queued history now chunk.stream (o.holds.waits chunk.stream) l) (sym does.others.2) here_wait)
             (renamed queued history now (IsOn history chunk.stream) (OfStream chunk.stream) (λ f k named'. named'.0) bears.piece.place does.ordered.outcome rows.1) (o.holds.once chunk.stream) (fresh chunk.stream)
-            (same_order (later chunk.stream) does.others.1 does.others.2) (λ counts on. never counts e) (λ counts. absurd (never counts e)) does.ordered.does)
+            (same_order (later chunk.stream) does.others.1 does.others.2) (λ counts on. never counts e) (λ counts. absurd (never counts e)) does.ordered.does) refl (λ counts. absurd (never counts e))
 
     -- one of I-DATA
     in_order : (place number : ℕ) (later : ℕ → StreamModel) (runs : List RunModel) (after : List MessageContent) (taken : Taken) → IsPiecePlaced (ordered_base base) bears.offset bears.piece number place → IsOn history chunk.stream bears.piece number
-        → (CountsFromZero history chunk.stream → IsReadAs history chunk.stream bears.piece.place number) → runs ≡ unordered → ((other : ℕ) → other ≢ chunk.stream → later other ≡ streams other)
+        → (CountsFromZero history chunk.stream → IsReadAs history chunk.stream bears.piece.place number) → (CountsFromZero history chunk.stream → bears.piece.mid + 2 ^ 32 ≡ history.floors chunk.stream false + number) → runs ≡ unordered → ((other : ℕ) → other ≢ chunk.stream → later other ≡ streams other)
         → TakesInOrder (data_part chunk place number) (streams chunk.stream) ready taken (later chunk.stream) after → HoldsOrdered watch (sent_messages queued history) quiet now base read (held_messages later runs after)
-    in_order place number later runs after taken placed named reads kept others takes =
+    in_order place number later runs after taken placed named reads exact kept others takes =
         elim (leb_tells (streams chunk.stream).next number) [
-          | inl e ↦ ahead place number later runs after taken placed named reads (λ counts. e.1) kept others (takes.ahead e.1)
-          | inr e ↦ (let past = takes.past e.1 in passed later runs after kept others past.1 past.2)
+          | inl e ↦ ahead place number later runs after taken placed named reads exact (λ counts. e.1) kept others (takes.ahead e.1)
+          | inr e ↦
+              (let past = takes.past e.1 in
+              let low : number < (streams chunk.stream).next = e.1 in
+              passed later runs after kept others past.1 past.2 (λ counts other counted up. (let its = exact counts in omega (arith, its, counted, up, low))))
         ]
 
     -- an unordered message isn't an ordered one
@@ -240,7 +271,10 @@ module _ (watch : ℕ → Watch) (queued : List Message) (history : History) (qu
         (sym here.rows.is) o.holds.were_queued (subst (λ (l : List WholeModel). WaitQueued queued history now chunk.stream (o.holds.waits chunk.stream) l) (sym takes.others.2) here_wait)
         (renamed queued history now (IsApart history chunk.stream) (OfStream chunk.stream) (λ f k named'. named'.0) bears.piece.place takes.unordered.outcome rows.1) (o.holds.once chunk.stream) (fresh chunk.stream)
         (same_order (later chunk.stream) takes.others.1 takes.others.2) (λ counts on. not_ordered unordered_is on)
-        (λ counts cut' has. (here_order counts).since cut' has bears.offset bears.piece bears.at named.0 (named.1 (counts.kinds bears.offset bears.piece bears.at)).2) takes.unordered.does)
+        (λ counts cut' has. (here_order counts).since cut' has bears.offset bears.piece bears.at named.0 (named.1 (counts.kinds bears.offset bears.piece bears.at)).2) takes.unordered.does) refl
+        (λ counts unlimited. parts_alike history now chunk.stream (streams chunk.stream) (later chunk.stream) takes.others.1 takes.others.2 takes.others.3
+        (parts_else history got chunk.stream (streams chunk.stream) bears.offset
+        (λ f since number counted up. (let clash : true ≡ false = sym unordered_is ∙ ap (λ (x : Piece). x.message.is_unordered) (sym (its_piece chunk.stream f since)) ∙ since.ordered in cc)) (o.parts chunk.stream counts unlimited aloud)))
 
     -- an unordered message of DATA that is whole, or a part of one
     makes_on : (place number : ℕ) (outcome : Assembly) → number ≡ chunk.stream → MakesQueued queued history.log now IsOfStream place outcome → IsOfMessage number outcome → MakesQueued queued history.log now (OfStream chunk.stream) place outcome
@@ -256,7 +290,7 @@ module _ (watch : ℕ → Watch) (queued : List Message) (history : History) (qu
         subst (λ (f : ℕ → StreamModel). HoldsOrdered watch (sent_messages queued history) quiet now base read (held_messages f runs after)) (sym same)
         (holds_then chunk.stream aloud streams runs after here_rows rows (λ other ne. refl)
         (apart_left (watch chunk.stream) queued history now all o.holds.places (o.holds.waits chunk.stream) chunk.stream chunk.stream bears.piece.place (data_part chunk tsn_number chunk.stream) (streams chunk.stream) ready after outcome taken
-        refl o.holds.were_queued here_wait makes (o.holds.once chunk.stream) (fresh chunk.stream) (same_order (streams chunk.stream) refl refl) (λ counts on. is_data counts kind) (λ counts. absurd (is_data counts kind)) does))
+        refl o.holds.were_queued here_wait makes (o.holds.once chunk.stream) (fresh chunk.stream) (same_order (streams chunk.stream) refl refl) (λ counts on. is_data counts kind) (λ counts. absurd (is_data counts kind)) does) refl (λ counts. absurd (is_data counts kind)))
 
   by_numbering : (tsn_number : ℕ) (numbering : Numbering) (chunk : ChunkModel) (old new : IncomingModel) → chunk.numbering ≡ numbering
       → (bears : BearsPiece history base tsn_number chunk) → IsNumbered bears.piece numbering → (HasEntry bears.offset got → ⊥) → quiet chunk.stream ≡ false → IncomingOrdered watch (sent_messages queued history) quiet got base read old → TakesChunk tsn_number numbering chunk old new → IncomingOrdered watch (sent_messages queued history) quiet (bears.offset ∷ got) base read new
@@ -266,7 +300,7 @@ module _ (watch : ℕ → Watch) (queued : List Message) (history : History) (qu
       subst (λ (n : Numbering). TakesNumberedPart (numbered_part tsn_number chunk n (stream_on chunk.stream old.streams)) (stream_on chunk.stream old.streams) old.ready takes.taken (stream_on chunk.stream new.streams) new.ready) is takes.does in
       ahead tsn_number chunk bears is_new aloud (λ id. stream_on id old.streams) old.unordered old.ready o (fragment_place number tsn_number) number (λ id. stream_on id new.streams) new.unordered new.ready takes.taken
       (ordered_placed history base tsn_number number chunk bears numbered.0) (sym bears.stream, λ i. absurd (let clash : true ≡ false = sym i ∙ numbered.0 in cc))
-      (λ counts. absurd (is_plain counts numbered.0)) (λ counts. absurd (is_plain counts numbered.0)) takes.unordered takes.others does
+      (λ counts. absurd (is_plain counts numbered.0)) (λ counts. absurd (is_plain counts numbered.0)) (λ counts. absurd (is_plain counts numbered.0)) takes.unordered takes.others does
     where
       is_plain : CountsFromZero history chunk.stream → bears.piece.is_interleaved ≡ false → ⊥
       is_plain counts kind = (let clash : true ≡ false = sym (counts.kinds bears.offset bears.piece bears.at) ∙ kind in absurd (cc))
@@ -283,8 +317,13 @@ module _ (watch : ℕ → Watch) (queued : List Message) (history : History) (qu
       let does : TakesInOrder (data_part chunk (fragment_place (number_near next mid) fsn) (number_near next mid)) (stream_on chunk.stream old.streams) old.ready takes.taken (stream_on chunk.stream new.streams) new.ready =
       subst (λ (n : Numbering). TakesNumberedPart (numbered_part tsn_number chunk n (stream_on chunk.stream old.streams)) (stream_on chunk.stream old.streams) old.ready takes.taken (stream_on chunk.stream new.streams) new.ready) is takes.does in
       in_order tsn_number chunk bears is_new aloud (λ id. stream_on id old.streams) old.unordered old.ready o (fragment_place (number_near next mid) fsn) (number_near next mid) (λ id. stream_on id new.streams) new.unordered new.ready takes.taken
-      (apart_placed history base tsn_number (number_near next mid) fsn chunk bears numbered.0 numbered.3) (sym bears.stream, named.0) (λ counts. reads counts) takes.unordered takes.others does
+      (apart_placed history base tsn_number (number_near next mid) fsn chunk bears numbered.0 numbered.3) (sym bears.stream, named.0) (λ counts. reads counts) (λ counts. exact counts) takes.unordered takes.others does
     where
+      exact : CountsFromZero history chunk.stream → bears.piece.mid + 2 ^ 32 ≡ history.floors chunk.stream false + number_near (stream_on chunk.stream old.streams).next mid
+      exact counts =
+          subst (λ (k : ℕ). bears.piece.mid + 2 ^ 32 ≡ history.floors chunk.stream false + number_near (stream_on chunk.stream old.streams).next k) (sym numbered.2)
+          (mids_counted history chunk.stream bears.offset bears.piece (stream_on chunk.stream old.streams) counts (subst (λ (b : Bool). IsOrderedOrReset (watch chunk.stream) b (sent_messages queued history) chunk.stream (read ++ o.holds.places) (o.holds.waits chunk.stream) (stream_on chunk.stream old.streams)) aloud (o.order chunk.stream counts)).reach (record { at = bears.at; stream = sym bears.stream; ordered = numbered.1; current = bears.current numbered.0 }))
+
       reads : CountsFromZero history chunk.stream → IsReadAs history chunk.stream bears.piece.place (number_near (stream_on chunk.stream old.streams).next mid)
       reads counts =
           subst (λ (k : ℕ). IsReadAs history chunk.stream bears.piece.place (number_near (stream_on chunk.stream old.streams).next k)) (sym numbered.2)

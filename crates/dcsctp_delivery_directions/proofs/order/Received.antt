@@ -1,5 +1,5 @@
 -- What is received leaves each stream in order: nothing that is new is of a quiet stream.
-use Rattle.std.proofs.Common.{◌≡◌, ℕ, Bool, true, false, ◌<◌, ◌+◌, ◌-◌, ◌%◌, ◌^◌, List, [], ◌∷◌, ◌++◌, length, refl, sym, ◌∙◌, ap, arith, subst, inl, inr}
+use Rattle.std.proofs.Common.{◌≡◌, ℕ, Bool, true, false, ◌<◌, ◌+◌, ◌-◌, ◌%◌, ◌^◌, List, [], ◌∷◌, ◌++◌, length, refl, sym, ◌∙◌, ap, arith, subst, inl, inr, ◌≤◌}
 use Rattle.std.specs.Prelude.{◌&&◌, not, if◌then◌else◌, Option, None, Some}
 use Rattle.std.proofs.lemmas.List.{append-nil}
 use Rattle.dcsctp_spec_lemmas.specs.types.declared.arrivals.SkippedTo.{SkippedTo}
@@ -23,16 +23,18 @@ use Rattle.dcsctp_delivery_directions.specs.receiving.Tracked.{tracked_number, T
 use Rattle.dcsctp_delivery_directions.specs.receiving.Clear.{NoneSkips, IsOver}
 use Rattle.dcsctp_delivery_directions.proofs.receiving.Clear.{old_tsn, forward_behind, all_skip_others}
 use Rattle.dcsctp_delivery_directions.proofs.receiving.Current.{OthersArePast, carries_current, skips_to}
-use Rattle.dcsctp_delivery_directions.proofs.receiving.Distinct.{has_either, distinct_with}
+use Rattle.dcsctp_delivery_directions.proofs.receiving.Distinct.{has_either, distinct_with, has_left, has_right}
 use Rattle.dcsctp_delivery_directions.proofs.receiving.Kept.{all_left, deferred_by, each_named}
 use Rattle.dcsctp_delivery_directions.proofs.receiving.Reassembled.{first_number, first_base, first_near, number_read, few_behind, bears_of, waiting_data}
 use Rattle.dcsctp_delivery_directions.proofs.receiving.Taking.{nothing_passed}
-use Rattle.dcsctp_delivery_directions.proofs.receiving.Tracked.{new_is_new, passing_keeps, delayed_tracks, new_beyond, forward_beyond}
+use Rattle.dcsctp_delivery_directions.proofs.receiving.Tracked.{new_is_new, passing_keeps, delayed_tracks, new_beyond, forward_beyond, passed_either, up_to}
 use Rattle.dcsctp_delivery_directions.specs.order.Incoming.{IncomingOrdered, NoneIsQuiet}
-use Rattle.dcsctp_delivery_directions.specs.order.Received.{ReassemblesInOrder, none_handled, some_handled, HasReceivedInOrder}
+use Rattle.dcsctp_delivery_directions.specs.order.Received.{ReassemblesInOrder, none_handled, some_handled, HasReceivedInOrder, IsKnownTsn}
 use Rattle.dcsctp_delivery_directions.proofs.order.Ready.{ready_in_order}
 use Rattle.dcsctp_delivery_directions.proofs.order.Skipping.{skipping_in_order}
 use Rattle.dcsctp_delivery_directions.specs.order.Reading.{Watch}
+use Rattle.dcsctp_delivery_directions.proofs.order.PlainReceived.{observed_exact, known_exact}
+use Rattle.dcsctp_delivery_directions.proofs.receiving.Joining.{both}
 
 -- ---- streams that aren't quiet
 
@@ -88,6 +90,9 @@ module _ (queued : List Message) (history : History) (first : ℕ) (cut : IsLogO
 pub tracks_fewer : (first count : ℕ) (taken got : List ℕ) (tracker : TrackerState) → ((k : ℕ) → HasEntry k got → HasEntry k taken) → Tracks first count taken tracker → Tracks first count got tracker
 tracks_fewer first count taken got tracker among t = record { beyond = t.beyond; reached = t.reached; started = t.started; sent = t.sent; received = λ offset h. t.received offset (among offset h) }
 
+alike_received : (tracker now : TrackerState) → now.cumulative ≡ tracker.cumulative → now.ranges ≡ tracker.ranges → (number : ℕ) → has_received now number ≡ has_received tracker number
+alike_received tracker now same same' number = ap (λ (c : ℕ). is_received c number now.ranges) same ∙ ap (λ (l : List TsnRange). is_received tracker.cumulative number l) same'
+
 -- when an acknowledgement is due is another matter
 pub tracks_alike : (first count : ℕ) (taken : List ℕ) (tracker now : TrackerState) → now.cumulative ≡ tracker.cumulative → now.ranges ≡ tracker.ranges → Tracks first count taken tracker → Tracks first count taken now
 tracks_alike first count taken tracker now same same' t =
@@ -105,8 +110,9 @@ tracks_alike first count taken tracker now same same' t =
 module _ (watch : ℕ → Watch) (queued : List Message) (history : History) (quiet : ℕ → Bool) (first : ℕ) (read : List ℕ) where
   -- the tracker moves alone
   tracked_on : (tracker now : TrackerState) (reassembly : ReassemblyState) (r : HasReceivedInOrder watch (sent_messages queued history) quiet first read tracker reassembly) → Tracks first (length history.log) r.taken now
+      → (reassembly.max_size ≤ 2 ^ 63 → (k : ℕ) → IsKnownTsn watch history k → has_received now (tracked_number first k) ≡ true → HasEntry k r.taken)
       → HasReceivedInOrder watch (sent_messages queued history) quiet first read now reassembly
-  tracked_on tracker now reassembly r tracks =
+  tracked_on tracker now reassembly r tracks exact =
       record {
         taken = r.taken;
         got = r.got;
@@ -114,6 +120,8 @@ module _ (watch : ℕ → Watch) (queued : List Message) (history : History) (qu
         tracks = tracks;
         got_taken = r.got_taken;
         later_taken = r.later_taken;
+        either = r.either;
+        exact = exact;
         apart = r.apart;
         distinct = r.distinct;
         holds = r.holds;
@@ -123,6 +131,7 @@ module _ (watch : ℕ → Watch) (queued : List Message) (history : History) (qu
   pub tracked_in_order : (tracker now : TrackerState) (reassembly : ReassemblyState) → now.cumulative ≡ tracker.cumulative → now.ranges ≡ tracker.ranges → HasReceivedInOrder watch (sent_messages queued history) quiet first read tracker reassembly
       → HasReceivedInOrder watch (sent_messages queued history) quiet first read now reassembly
   tracked_in_order tracker now reassembly same same' r = tracked_on tracker now reassembly r (tracks_alike first (length history.log) r.taken tracker now same same' r.tracks)
+      (λ small k is known. r.exact small k is (sym (alike_received tracker now same same' (tracked_number first k)) ∙ known))
 
   -- a reset is deferred
   pub deferring_in_order : (last_tsn : ℕ) (streams : List ℕ) (tracker : TrackerState) (reassembly : ReassemblyState) → HasReceivedInOrder watch (sent_messages queued history) quiet first read tracker reassembly
@@ -135,6 +144,8 @@ module _ (watch : ℕ → Watch) (queued : List Message) (history : History) (qu
         tracks = r.tracks;
         got_taken = r.got_taken;
         later_taken = r.later_taken;
+        either = r.either;
+        exact = r.exact;
         apart = r.apart;
         distinct = r.distinct;
         holds = r.holds;
@@ -154,13 +165,16 @@ QuietAreOver history quiet first cumulative = (id : ℕ) → quiet id ≡ true �
 module _ (watch : ℕ → Watch) (queued : List Message) (history : History) (first : ℕ) (cut : IsLogOfPieces queued history.log) (told : IsUnambiguous history) (f : Few history first) (quiet : ℕ → Bool) (read : List ℕ) where
   -- a chunk whose TSN is new
   added : (offset tsn : ℕ) (chunk : ChunkModel) (tracker now : TrackerState) (old new : ReassemblyState) → CarriesCurrent history first offset tsn chunk → (r : HasReceivedInOrder watch (sent_messages queued history) quiet first read tracker old)
-      → Tracks first (length history.log) (offset ∷ r.taken) now → (HasEntry offset r.taken → ⊥) → quiet chunk.stream ≡ false → AddsData tsn chunk old new → HasReceivedInOrder watch (sent_messages queued history) quiet first read now new
-  added offset tsn chunk tracker now old new c r tracks is_new loud adds = go (can_count (length chunk.payload) old) refl (is_data_deferred tsn chunk.stream old.deferral) refl
+      → Tracks first (length history.log) (offset ∷ r.taken) now → (HasEntry offset r.taken → ⊥) → quiet chunk.stream ≡ false
+      → (old.max_size ≤ 2 ^ 63 → can_count (length chunk.payload) old ≡ true) → (old.max_size ≤ 2 ^ 63 → (k : ℕ) → IsKnownTsn watch history k → has_received now (tracked_number first k) ≡ true → HasEntry k (offset ∷ r.taken))
+      → AddsData tsn chunk old new → HasReceivedInOrder watch (sent_messages queued history) quiet first read now new
+  added offset tsn chunk tracker now old new c r tracks is_new loud counted exact adds = go (can_count (length chunk.payload) old) refl (is_data_deferred tsn chunk.stream old.deferral) refl
     where
       go : (counts : Bool) → can_count (length chunk.payload) old ≡ counts → (waits : Bool) → is_data_deferred tsn chunk.stream old.deferral ≡ waits → HasReceivedInOrder watch (sent_messages queued history) quiet first read now new
       go false counts waits deferred =
           subst (λ (s : ReassemblyState). HasReceivedInOrder watch (sent_messages queued history) quiet first read now s) (sym (adds.too_much counts))
-          (tracked_on watch queued history quiet first read tracker now old r (tracks_fewer first (length history.log) (offset ∷ r.taken) r.taken now (λ k h. inr h) tracks))
+          (tracked_on watch queued history quiet first read tracker now old r (tracks_fewer first (length history.log) (offset ∷ r.taken) r.taken now (λ k h. inr h) tracks)
+          (λ small k is. absurd (let clash : true ≡ false = sym (counted small) ∙ counts in cc)))
       go true counts true deferred =
           subst (λ (s : ReassemblyState). HasReceivedInOrder watch (sent_messages queued history) quiet first read now s) (sym (adds.deferred counts deferred))
           (record {
@@ -173,6 +187,11 @@ module _ (watch : ℕ → Watch) (queued : List Message) (history : History) (fi
               | inl l ↦ inr (r.later_taken k l)
               | inr e ↦ elim e [ inl e' ↦ inl e' | inr t ↦ absurd t ]
             ];
+            either = λ k h. elim h [
+              | inl e ↦ inr (has_right k r.later (offset ∷ []) (inl e))
+              | inr t ↦ elim (r.either k t) [ inl g ↦ inl g | inr l ↦ inr (has_left k r.later (offset ∷ []) l) ]
+            ];
+            exact = exact;
             apart = λ k h g. elim (has_either k r.later (offset ∷ []) h) [
               | inl l ↦ r.apart k l g
               | inr e ↦ elim e [ inl e' ↦ is_new (r.got_taken offset (subst (λ (j : ℕ). HasEntry j r.got) e' g)) | inr t ↦ absurd t ]
@@ -191,6 +210,8 @@ module _ (watch : ℕ → Watch) (queued : List Message) (history : History) (fi
             tracks = tracks;
             got_taken = λ k h. elim h [ inl e ↦ inl e | inr t ↦ inr (r.got_taken k t) ];
             later_taken = λ k h. inr (r.later_taken k h);
+            either = λ k h. elim h [ inl e ↦ inl (inl e) | inr t ↦ elim (r.either k t) [ inl g ↦ inl (inr g) | inr l ↦ inr l ] ];
+            exact = λ small. exact (let window = takes.window in omega (arith, small, window));
             apart = λ k h g. elim g [ inl e ↦ is_new (r.later_taken offset (subst (λ (j : ℕ). HasEntry j r.later) e h)) | inr t ↦ r.apart k h t ];
             distinct = r.distinct;
             holds = data_in_order queued history first cut told f quiet read watch r.got offset tsn chunk old.incoming new.incoming c (λ h. is_new (r.got_taken offset h)) loud r.holds takes.incoming;
@@ -198,8 +219,8 @@ module _ (watch : ℕ → Watch) (queued : List Message) (history : History) (fi
           }
 
   taken_in_order : (offset : ℕ) (arrival : Arrival) (old new : Transfer) → Carries history.log first offset arrival.tsn arrival.chunk → OthersArePast history first old.tracker.cumulative → QuietAreOver history quiet first old.tracker.cumulative
-      → HasReceivedInOrder watch (sent_messages queued history) quiet first read old.tracker old.reassembly → TakesArrival arrival old new → HasReceivedInOrder watch (sent_messages queued history) quiet first read new.tracker new.reassembly
-  taken_in_order offset arrival old new c past over r takes =
+      → HasReceivedInOrder watch (sent_messages queued history) quiet first read old.tracker old.reassembly → (old.reassembly.max_size ≤ 2 ^ 63 → can_count (length arrival.chunk.payload) old.reassembly ≡ true) → TakesArrival arrival old new → HasReceivedInOrder watch (sent_messages queued history) quiet first read new.tracker new.reassembly
+  taken_in_order offset arrival old new c past over r counted takes =
       subst (λ (t : TrackerState). HasReceivedInOrder watch (sent_messages queued history) quiet first read t new.reassembly) (sym (ap (λ (t : Transfer). t.tracker) takes.rest)) (go (is_new_tsn arrival.tsn old.tracker) refl takes.reassembly)
     where
       now : TrackerState
@@ -216,6 +237,11 @@ module _ (watch : ℕ → Watch) (queued : List Message) (history : History) (fi
       by_offset : is_new_tsn arrival.tsn old.tracker ≡ true → is_new_tsn ((first + offset) % 2 ^ 32) old.tracker ≡ true
       by_offset is = subst (λ (t : ℕ). is_new_tsn t old.tracker ≡ true) c.is is
 
+      exact : old.reassembly.max_size ≤ 2 ^ 63 → (k : ℕ) → IsKnownTsn watch history k → has_received now (tracked_number first k) ≡ true → HasEntry k (offset ∷ r.taken)
+      exact small =
+          subst (λ (t : ℕ). (k : ℕ) → IsKnownTsn watch history k → has_received (tracker_after_data t arrival.immediate_ack old.tracker) (tracked_number first k) ≡ true → HasEntry k (offset ∷ r.taken)) (sym c.is)
+          (observed_exact first (length history.log) offset arrival.immediate_ack old.tracker r.taken f.small f.few below r.tracks (IsKnownTsn watch history) (r.exact small))
+
       -- nothing new is of a quiet stream
       loud : is_new_tsn arrival.tsn old.tracker ≡ true → quiet arrival.chunk.stream ≡ false
       loud is = loud_by quiet arrival.chunk.stream (λ silent. (let o = over arrival.chunk.stream silent in
@@ -226,26 +252,29 @@ module _ (watch : ℕ → Watch) (queued : List Message) (history : History) (fi
       go true is adds =
           added offset arrival.tsn arrival.chunk old.tracker now old.reassembly new.reassembly
           (carries_current history first old.tracker.cumulative past offset arrival.tsn arrival.chunk (new_beyond first (length history.log) offset r.taken old.tracker f.small f.few below r.tracks (by_offset is)) c) r tracks
-          ((new_is_new first (length history.log) offset arrival.immediate_ack r.taken old.tracker f.small f.few below r.tracks).1 (by_offset is)) (loud is) adds
+          ((new_is_new first (length history.log) offset arrival.immediate_ack r.taken old.tracker f.small f.few below r.tracks).1 (by_offset is)) (loud is) counted exact adds
       go false is adds =
           subst (λ (s : ReassemblyState). HasReceivedInOrder watch (sent_messages queued history) quiet first read now s) (sym adds)
-          (tracked_on watch queued history quiet first read old.tracker now old.reassembly r (tracks_fewer first (length history.log) (offset ∷ r.taken) r.taken now (λ k h. inr h) tracks))
+          (tracked_on watch queued history quiet first read old.tracker now old.reassembly r (tracks_fewer first (length history.log) (offset ∷ r.taken) r.taken now (λ k h. inr h) tracks)
+          (λ small. subst (λ (t : ℕ). (k : ℕ) → IsKnownTsn watch history k → has_received (tracker_after_data t arrival.immediate_ack old.tracker) (tracked_number first k) ≡ true → HasEntry k r.taken) (sym c.is)
+          (known_exact first (length history.log) offset arrival.immediate_ack old.tracker r.taken f.small f.few below r.tracks (IsKnownTsn watch history) (r.exact small) (subst (λ (t : ℕ). is_new_tsn t old.tracker ≡ false) c.is is))))
 
   same_transfer : (old new : Transfer) → new ≡ old → HasReceivedInOrder watch (sent_messages queued history) quiet first read old.tracker old.reassembly → HasReceivedInOrder watch (sent_messages queued history) quiet first read new.tracker new.reassembly
   same_transfer old new same r = subst (λ (t : Transfer). HasReceivedInOrder watch (sent_messages queued history) quiet first read t.tracker t.reassembly) (sym same) r
 
   dropped_in_order : (b : Bool) (old new : Transfer) → new ≡ dropping b old → HasReceivedInOrder watch (sent_messages queued history) quiet first read old.tracker old.reassembly → HasReceivedInOrder watch (sent_messages queued history) quiet first read new.tracker new.reassembly
   dropped_in_order true old new same r =
-      same_transfer (dropping true old) new same (tracked_on watch queued history quiet first read old.tracker (delay_over old.tracker) old.reassembly r (delayed_tracks first (length history.log) r.taken old.tracker r.tracks))
+      same_transfer (dropping true old) new same (tracked_on watch queued history quiet first read old.tracker (delay_over old.tracker) old.reassembly r (delayed_tracks first (length history.log) r.taken old.tracker r.tracks) r.exact)
   dropped_in_order false old new same r = same_transfer old new same r
 
   pub received_in_order : (offset : ℕ) (arrival : Arrival) (old new : Transfer) → Carries history.log first offset arrival.tsn arrival.chunk → OthersArePast history first old.tracker.cumulative
-      → QuietAreOver history quiet first old.tracker.cumulative → HasReceivedInOrder watch (sent_messages queued history) quiet first read old.tracker old.reassembly → ReceivesData arrival old new → HasReceivedInOrder watch (sent_messages queued history) quiet first read new.tracker new.reassembly
-  received_in_order offset arrival old new c past over r receives = go (has_room arrival.tsn old && is_valid_tsn old.tracker.cumulative arrival.tsn) receives
+      → QuietAreOver history quiet first old.tracker.cumulative → HasReceivedInOrder watch (sent_messages queued history) quiet first read old.tracker old.reassembly
+      → (old.reassembly.max_size ≤ 2 ^ 63 → has_room arrival.tsn old ≡ true → can_count (length arrival.chunk.payload) old.reassembly ≡ true) → ReceivesData arrival old new → HasReceivedInOrder watch (sent_messages queued history) quiet first read new.tracker new.reassembly
+  received_in_order offset arrival old new c past over r counted receives = go (has_room arrival.tsn old && is_valid_tsn old.tracker.cumulative arrival.tsn) refl receives
     where
-      go : (b : Bool) → ReceivesIfRoom b arrival old new → HasReceivedInOrder watch (sent_messages queued history) quiet first read new.tracker new.reassembly
-      go true takes = taken_in_order offset arrival old new c past over r takes
-      go false same = dropped_in_order (old.tracker.follows_rfc && is_valid_tsn old.tracker.cumulative arrival.tsn) old new same r
+      go : (b : Bool) → (has_room arrival.tsn old && is_valid_tsn old.tracker.cumulative arrival.tsn) ≡ b → ReceivesIfRoom b arrival old new → HasReceivedInOrder watch (sent_messages queued history) quiet first read new.tracker new.reassembly
+      go true e takes = taken_in_order offset arrival old new c past over r (λ small. counted small (both (has_room arrival.tsn old) (is_valid_tsn old.tracker.cumulative arrival.tsn) e).0) takes
+      go false e same = dropped_in_order (old.tracker.follows_rfc && is_valid_tsn old.tracker.cumulative arrival.tsn) old new same r
 
   -- ---- a FORWARD-TSN
 
@@ -257,17 +286,20 @@ module _ (watch : ℕ → Watch) (queued : List Message) (history : History) (fi
   delayed tsn tracker old new is same r =
       subst (λ (s : ReassemblyState). HasReceivedInOrder watch (sent_messages queued history) quiet first read (after_forward tsn tracker) s) (sym same)
       (tracked_on watch queued history quiet first read tracker (after_forward tsn tracker) old r
-      (subst (λ (k : TrackerState). Tracks first (length history.log) r.taken k) (sym (not_passed tsn tracker is)) (delayed_tracks first (length history.log) r.taken tracker r.tracks)))
+      (subst (λ (k : TrackerState). Tracks first (length history.log) r.taken k) (sym (not_passed tsn tracker is)) (delayed_tracks first (length history.log) r.taken tracker r.tracks))
+      (λ small k known e. r.exact small k known (ap (λ (n : TrackerState). has_received n (tracked_number first k)) (sym (not_passed tsn tracker is)) ∙ e)))
 
   skipped_in_order : (tsn : ℕ) (entries : List SkippedTo) (tracker now : TrackerState) (old new : ReassemblyState) → SkipsTo history first tsn entries → NoneIsQuiet quiet entries → (r : HasReceivedInOrder watch (sent_messages queued history) quiet first read tracker old)
-      → Tracks first (length history.log) r.taken now → SkipsData tsn entries old new → HasReceivedInOrder watch (sent_messages queued history) quiet first read now new
-  skipped_in_order tsn entries tracker now old new to loud r tracks skips = go (is_forward_deferred tsn old.deferral) refl
+      → Tracks first (length history.log) r.taken now → (old.max_size ≤ 2 ^ 63 → (k : ℕ) → IsKnownTsn watch history k → has_received now (tracked_number first k) ≡ true → HasEntry k r.taken)
+      → SkipsData tsn entries old new → HasReceivedInOrder watch (sent_messages queued history) quiet first read now new
+  skipped_in_order tsn entries tracker now old new to loud r tracks exact skips = go (is_forward_deferred tsn old.deferral) refl
     where
       named : AreNamed history entries
       named = each_named history first (to.tsn_is.offset + 1) entries to.names
 
-      left : (holds : ReassemblesInOrder watch (sent_messages queued history) quiet first r.got read new.incoming) → DefersData history first r.later (waiting_of new.deferral) → HasReceivedInOrder watch (sent_messages queued history) quiet first read now new
-      left holds defers =
+      left : new.max_size ≡ old.max_size → (holds : ReassemblesInOrder watch (sent_messages queued history) quiet first r.got read new.incoming) → DefersData history first r.later (waiting_of new.deferral)
+          → HasReceivedInOrder watch (sent_messages queued history) quiet first read now new
+      left window holds defers =
           record {
             taken = r.taken;
             got = r.got;
@@ -275,6 +307,8 @@ module _ (watch : ℕ → Watch) (queued : List Message) (history : History) (fi
             tracks = tracks;
             got_taken = r.got_taken;
             later_taken = r.later_taken;
+            either = r.either;
+            exact = λ small. exact (omega (arith, small, window));
             apart = r.apart;
             distinct = r.distinct;
             holds = holds;
@@ -286,18 +320,19 @@ module _ (watch : ℕ → Watch) (queued : List Message) (history : History) (fi
           let (waits, same, far) = deferred_by tsn old.deferral is in
           let beside = skips.deferred is waits same in
           let other : SkippedTo → Bool = λ entry. not (names_stream waits.streams (skipped_stream entry)) in
-          left
+          left beside.window
           (forward_in_order queued history first cut told f quiet read watch r.got tsn (entries_beside waits.streams entries) old.incoming new.incoming to.tsn_is (all_left (IsNamedEntry history) other entries named)
           (all_left (λ entry. quiet (skipped_stream entry) ≡ false) other entries loud) r.holds beside.incoming)
           (subst (λ (d : Option DeferralModel). DefersData history first r.later (waiting_of d)) (sym beside.deferral) (subst (λ (d : Option DeferralModel). DefersData history first r.later (waiting_of d)) same r.defers))
       go false is =
           let moved = skips.moved is in
-          left (forward_in_order queued history first cut told f quiet read watch r.got tsn entries old.incoming new.incoming to.tsn_is named loud r.holds moved.incoming)
+          left moved.window (forward_in_order queued history first cut told f quiet read watch r.got tsn entries old.incoming new.incoming to.tsn_is named loud r.holds moved.incoming)
           (subst (λ (d : Option DeferralModel). DefersData history first r.later (waiting_of d)) (sym moved.deferral) r.defers)
 
   gone_in_order : (tsn : ℕ) (entries : List SkippedTo) (old new : Transfer) → (t : IsTsn history.log first tsn) → SkipAll history (t.offset + 1) entries → AreOfKind true history.log → OthersArePast history first old.tracker.cumulative
-      → QuietAreOver history quiet first old.tracker.cumulative → HasReceivedInOrder watch (sent_messages queued history) quiet first read old.tracker old.reassembly → GoesForward tsn entries old new → HasReceivedInOrder watch (sent_messages queued history) quiet first read new.tracker new.reassembly
-  gone_in_order tsn entries old new t skip kinds past over r goes =
+      → QuietAreOver history quiet first old.tracker.cumulative → HasReceivedInOrder watch (sent_messages queued history) quiet first read old.tracker old.reassembly → ((k : ℕ) → IsKnownTsn watch history k → k < t.offset + 1 → tracked_number first k ≤ old.tracker.cumulative)
+      → GoesForward tsn entries old new → HasReceivedInOrder watch (sent_messages queued history) quiet first read new.tracker new.reassembly
+  gone_in_order tsn entries old new t skip kinds past over r known goes =
       subst (λ (k : TrackerState). HasReceivedInOrder watch (sent_messages queued history) quiet first read k new.reassembly) (sym (ap (λ (k : Transfer). k.tracker) goes.rest)) (go (is_forward old.tracker.cumulative tsn) refl goes.reassembly)
     where
       by_offset : is_forward old.tracker.cumulative tsn ≡ true → is_forward old.tracker.cumulative ((first + t.offset) % 2 ^ 32) ≡ true
@@ -307,6 +342,14 @@ module _ (watch : ℕ → Watch) (queued : List Message) (history : History) (fi
       passed is =
           subst (λ (n : ℕ). Tracks first (length history.log) r.taken (after_forward n old.tracker)) (sym t.is)
           (passing_keeps first (length history.log) t.offset r.taken old.tracker f.small f.few t.below r.tracks (by_offset is))
+
+      -- what is passed was received, if it has no limits
+      exact : is_forward old.tracker.cumulative tsn ≡ true → old.reassembly.max_size ≤ 2 ^ 63 → (k : ℕ) → IsKnownTsn watch history k → has_received (after_forward tsn old.tracker) (tracked_number first k) ≡ true → HasEntry k r.taken
+      exact is small k sure e =
+          elim (passed_either first (length history.log) t.offset r.taken old.tracker f.small f.few t.below r.tracks (by_offset is) k (ap (λ (n : ℕ). has_received (after_forward n old.tracker) (tracked_number first k)) (sym t.is) ∙ e)) [
+            | inl before ↦ r.exact small k sure before
+            | inr up ↦ r.exact small k sure (up_to old.tracker.cumulative (tracked_number first k) old.tracker.ranges (known k sure up))
+          ]
 
       -- nothing is skipped of a quiet stream
       loud : is_forward old.tracker.cumulative tsn ≡ true → NoneIsQuiet quiet entries
@@ -319,15 +362,16 @@ module _ (watch : ℕ → Watch) (queued : List Message) (history : History) (fi
       go true is skips =
           let to : SkipsTo history first tsn entries =
           skips_to history first old.tracker.cumulative past tsn entries t (forward_beyond first (length history.log) t.offset r.taken old.tracker f.small f.few t.below r.tracks (by_offset is)) skip in
-          skipped_in_order tsn entries old.tracker (after_forward tsn old.tracker) old.reassembly new.reassembly to (loud is) r (passed is) skips
+          skipped_in_order tsn entries old.tracker (after_forward tsn old.tracker) old.reassembly new.reassembly to (loud is) r (passed is) (exact is) skips
       go false is same = delayed tsn old.tracker old.reassembly new.reassembly is same r
 
   pub forwarded_in_order : (tsn : ℕ) (entries : List SkippedTo) (old new : Transfer) → (t : IsTsn history.log first tsn) → SkipAll history (t.offset + 1) entries → AreOfKind true history.log → OthersArePast history first old.tracker.cumulative
-      → QuietAreOver history quiet first old.tracker.cumulative → HasReceivedInOrder watch (sent_messages queued history) quiet first read old.tracker old.reassembly → MovesForward tsn entries old new → HasReceivedInOrder watch (sent_messages queued history) quiet first read new.tracker new.reassembly
-  forwarded_in_order tsn entries old new t skip kinds past over r moves = go (is_valid_tsn old.tracker.cumulative tsn) moves
+      → QuietAreOver history quiet first old.tracker.cumulative → HasReceivedInOrder watch (sent_messages queued history) quiet first read old.tracker old.reassembly → ((k : ℕ) → IsKnownTsn watch history k → k < t.offset + 1 → tracked_number first k ≤ old.tracker.cumulative)
+      → MovesForward tsn entries old new → HasReceivedInOrder watch (sent_messages queued history) quiet first read new.tracker new.reassembly
+  forwarded_in_order tsn entries old new t skip kinds past over r known moves = go (is_valid_tsn old.tracker.cumulative tsn) moves
     where
       go : (b : Bool) → MovesIfForward b tsn entries old new → HasReceivedInOrder watch (sent_messages queued history) quiet first read new.tracker new.reassembly
-      go true goes = gone_in_order tsn entries old new t skip kinds past over r goes
+      go true goes = gone_in_order tsn entries old new t skip kinds past over r known goes
       go false same = same_transfer old new same r
 
   -- none is passed

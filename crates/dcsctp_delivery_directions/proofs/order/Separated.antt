@@ -1,5 +1,5 @@
 -- Resets that were performed separate the messages of a stream, also once more become ready.
-use Rattle.std.proofs.Common.{◌≡◌, ℕ, Bool, false, zero, suc, ◌<◌, ◌≤◌, ◌+◌, ◌^◌, List, [], ◌∷◌, ◌++◌, length, length-append, arith, refl, sym, ◌∙◌, ap, subst, inl, inr}
+use Rattle.std.proofs.Common.{◌≡◌, ℕ, Bool, false, zero, suc, ◌<◌, ◌≤◌, ◌+◌, ◌^◌, List, [], ◌∷◌, ◌++◌, length, length-append, arith, refl, sym, ◌∙◌, ap, subst, inl, inr, take}
 use Rattle.std.specs.Prelude.{Some}
 use Rattle.dcsctp_spec_lemmas.specs.spec.queues.Runs.{WholeModel}
 use Rattle.dcsctp_delivery_directions.specs.sending.Places.{HasEntry, at_place}
@@ -12,6 +12,22 @@ use Rattle.dcsctp_delivery_directions.specs.order.Queue.{IsMessageOn, IsOrderedO
 use Rattle.dcsctp_delivery_directions.specs.order.Rising.{Rise}
 use Rattle.dcsctp_delivery_directions.specs.order.Order.{AreReadAs}
 use Rattle.dcsctp_delivery_directions.specs.order.Reading.{ComeSince}
+
+-- the first ones are still the first once there are more
+pub taken_more : (place k : ℕ) (all more : List ℕ) → k ≤ length all → HasEntry place (take k all) → HasEntry place (take k (all ++ more))
+taken_more place zero all more low has = absurd has
+taken_more place (suc k) [] more low has = absurd (omega (arith, low))
+taken_more place (suc k) (p ∷ all) more low has = elim has [ inl e ↦ inl e | inr t ↦ inr (taken_more place k all more (omega (arith, low)) t) ]
+
+pub taken_front : (place k : ℕ) (xs ys : List ℕ) → k ≤ length xs → HasEntry place (take k (xs ++ ys)) → HasEntry place (take k xs)
+taken_front place zero xs ys low has = absurd has
+taken_front place (suc k) [] ys low has = absurd (omega (arith, low))
+taken_front place (suc k) (x ∷ xs) ys low has = elim has [ inl e ↦ inl e | inr t ↦ inr (taken_front place k xs ys (omega (arith, low)) t) ]
+
+pub taken_all : (place k : ℕ) (all : List ℕ) → length all ≡ k → HasEntry place all → HasEntry place (take k all)
+taken_all place k [] size has = absurd has
+taken_all place zero (p ∷ all) size has = absurd (omega (arith, size))
+taken_all place (suc k) (p ∷ all) size has = elim has [ inl e ↦ inl e | inr t ↦ inr (taken_all place k all (omega (arith, size)) t) ]
 
 module _ (queued : List Message) (id : ℕ) where
   -- those of none of these places are messages of the stream
@@ -46,6 +62,8 @@ module _ (queued : List Message) (id : ℕ) where
           | inl old ↦ has_left earlier all more (s.no_gap earlier later old on on' less below one free)
           | inr new ↦ absurd (none later new (record { message = on.message; at = on.at; stream = on.stream }))
         ];
+        before = s.before;
+        all = λ whole free place on below one. taken_more place cut.index all more s.within (s.all whole free place on below one);
       }
 
   -- and such as were queued since
@@ -59,6 +77,8 @@ module _ (queued : List Message) (id : ℕ) where
           | inl old ↦ has_left earlier all more (s.no_gap earlier later old on on' less below one free)
           | inr new ↦ absurd (let up = each later new cut has in omega (arith, up, below))
         ];
+        before = s.before;
+        all = λ whole free place on below one. taken_more place cut.index all more s.within (s.all whole free place on below one);
       }
 
   -- a reset that is performed when all of them were queued before it was asked for
@@ -101,6 +121,10 @@ separated_queued asks queued more id cuts places so are cut has =
           s.no_gap earlier later h (ordered_was later was on) (ordered_before queued more id earlier later less was on') less below one
           (λ place from to mine. free place from to (record { message = mine.message; at = at_more more queued place mine.message mine.at; stream = mine.stream; ordered = mine.ordered }))
           );
+      before = (let low = s.before in omega (arith, low, length-append more queued));
+      all = λ whole free place on below one. s.all whole
+          (λ other from to mine. free other from to (record { message = mine.message; at = at_more more queued other mine.message mine.at; stream = mine.stream; ordered = mine.ordered })) place
+          (record { message = on.message; at = at_before more queued place on.message (let low = s.before in omega (arith, below, low)) on.at; stream = on.stream; ordered = on.ordered }) below one;
     }
   where
     ordered_was : (later : ℕ) → IsMessageOn queued id later → IsOrderedOn (more ++ queued) id later → IsOrderedOn queued id later

@@ -30,6 +30,8 @@ use Rattle.dcsctp_delivery_directions.proofs.order.Reading.{mids_are_read, mids_
 use Rattle.dcsctp_delivery_directions.proofs.order.Leaving.{others_where, one_stream, wait_on_it, split_ordered, LeavesOrder, none_left, alike_ordered}
 use Rattle.dcsctp_delivery_directions.proofs.order.Separated.{separated_more, read_since}
 use Rattle.dcsctp_delivery_directions.proofs.order.Epochs.{skip_by_epoch}
+use Rattle.dcsctp_delivery_directions.specs.order.Parts.{HoldsParts, AreUnlimitedSince}
+use Rattle.dcsctp_delivery_directions.proofs.order.HeldParts.{parts_alike}
 
 module _ (watch : ℕ → Watch) (queued : List Message) (history : History) (quiet : ℕ → Bool) (got : List ℕ) (base : ℕ) (read : List ℕ) where
   rows_filter : (from : ℕ → ℕ) (Named : Piece → ℕ → Type 0) (test : RunModel → Bool) (runs : List RunModel) → AreRows history.log got from Named runs → AreRows history.log got from Named (filter test runs)
@@ -63,13 +65,16 @@ module _ (watch : ℕ → Watch) (queued : List Message) (history : History) (qu
           once = o.holds.once;
         };
         order = λ id counts. subst (λ (s : StreamModel). IsOrderedOrReset (watch id) (quiet id) (sent_messages queued history) id (read ++ o.holds.places) (o.holds.waits id) s) (sym (same id)) (o.order id counts);
+        within = o.within;
+        parts = λ id counts unlimited loud. subst (λ (s : StreamModel). HoldsParts history got id s) (sym (same id)) (o.parts id counts unlimited loud);
       }
 
   -- one stream is left so
   holds_left : (id : ℕ) → quiet id ≡ false → (streams later : ℕ → StreamModel) (unordered : List RunModel) (ready after : List MessageContent) (o : HoldsOrdered watch (sent_messages queued history) quiet got base read (held_messages streams unordered ready))
       → StreamRows history got base id (later id) → ((other : ℕ) → other ≢ id → later other ≡ streams other)
-      → LeavesOrder (watch id) queued history got (read ++ o.holds.places) o.holds.places id (later id) after → HoldsOrdered watch (sent_messages queued history) quiet got base read (held_messages later unordered after)
-  holds_left id loud streams later unordered ready after o rows others leaves =
+      → LeavesOrder (watch id) queued history got (read ++ o.holds.places) o.holds.places id (later id) after
+      → (CountsFromZero history id → AreUnlimitedSince history id → HoldsParts history got id (later id)) → HoldsOrdered watch (sent_messages queued history) quiet got base read (held_messages later unordered after)
+  holds_left id loud streams later unordered ready after o rows others leaves parts =
       record {
         holds = record {
           waits = table_with id leaves.waits o.holds.waits;
@@ -111,7 +116,23 @@ module _ (watch : ℕ → Watch) (queued : List Message) (history : History) (qu
               (others_where (watch other) queued history (quiet other) other (read ++ o.holds.places) (o.holds.waits other) leaves.more (streams other)
               (λ place h is. ne (sym (one_stream queued id other place (leaves.on place h) (is.message, is.at, is.stream)))) (o.order other counts))))
         ];
+        within = o.within;
+        parts = λ other counts unlimited aloud. elim (decide other id) [
+          | inl e ↦ subst (λ (k : ℕ). HoldsParts history got k (later k)) (sym e) (parts (subst (λ (k : ℕ). CountsFromZero history k) e counts) (subst (λ (k : ℕ). AreUnlimitedSince history k) e unlimited))
+          | inr ne ↦ subst (λ (s : StreamModel). HoldsParts history got other s) (sym (others other ne)) (o.parts other counts unlimited aloud)
+        ];
       }
+
+  -- the parts that are held are still, where no ordered message may be skipped
+  skipped_parts : (passed : ℕ) (entry : SkippedTo) (stream : StreamModel) → NamesCurrent history passed entry → CountsFromZero history (skipped_stream entry) → AreUnlimitedSince history (skipped_stream entry) → HoldsParts history got (skipped_stream entry) stream
+      → HoldsParts history got (skipped_stream entry) (stream_after_skip entry stream)
+  skipped_parts passed (Ssn on ssn) stream names counts unlimited p = absurd (let plain = names.0 in let clash : true ≡ false = sym (counts.kinds plain.number plain.piece plain.at) ∙ plain.kind in cc)
+  skipped_parts passed (Mid on false mid) stream names counts unlimited p =
+      absurd
+      (let s = names.0 in
+      let clash : true ≡ false = sym s.limited ∙ unlimited s.number s.piece (record { at = s.at; stream = sym s.stream; ordered = sym s.unordered; current = names.1 }) in
+      cc)
+  skipped_parts passed (Mid on true mid) stream names counts unlimited p = parts_alike history got on.0 stream (stream_after_skip (Mid on true mid) stream) refl refl refl p
 
   -- what is due becomes ready
   leaves_due : (all places waits : List ℕ) (id next : ℕ) (stream new : StreamModel) (before : List MessageContent) → (CountsFromZero history id → (number : ℕ) → stream.next ≤ number → number < next → IsLimitedFrom history id number) → new.next ≡ next_due next stream.waiting → StreamHolds queued history got base id waits stream → WereQueued queued places before → AreDistinct (all ++ waits)
@@ -235,6 +256,7 @@ module _ (watch : ℕ → Watch) (queued : List Message) (history : History) (qu
       (subst (λ (s : StreamModel). LeavesOrder (watch id) queued history got (read ++ o.holds.places) o.holds.places id s (ready ++ skip_deliveries entry (streams id))) (sym is)
       (skipped_leaves passed (read ++ o.holds.places) o.holds.places (o.holds.waits id) entry (streams id) ready names here o.holds.were_queued (o.holds.once id)
       (λ counts. subst (λ (b : Bool). IsOrderedOrReset (watch id) b (sent_messages queued history) id (read ++ o.holds.places) (o.holds.waits id) (streams id)) loud (o.order id counts))))
+      (λ counts unlimited. subst (λ (s : StreamModel). HoldsParts history got id s) (sym is) (skipped_parts passed entry (streams id) names counts unlimited (o.parts id counts unlimited loud)))
 
   all_skipped : (entries : List SkippedTo) (streams : ℕ → StreamModel) (unordered : List RunModel) (ready : List MessageContent) → HoldsOrdered watch (sent_messages queued history) quiet got base read (held_messages streams unordered ready)
       → AreNamed history entries → NoneIsQuiet quiet entries → HoldsOrdered watch (sent_messages queued history) quiet got base read (held_messages (λ id. stream_skipping entries id (streams id)) unordered (ready ++ deliveries_of_skips entries streams))
@@ -255,6 +277,8 @@ module _ (watch : ℕ → Watch) (queued : List Message) (history : History) (qu
       record {
         holds = record { waits = holds.holds.waits; streams_hold = holds.holds.streams_hold; rows = rows; places = holds.holds.places; were_queued = holds.holds.were_queued; spent = holds.holds.spent; once = holds.holds.once };
         order = holds.order;
+        within = holds.within;
+        parts = holds.parts;
       }
 
   pub skipping_in_order : (tsn : ℕ) (entries : List SkippedTo) (old new : IncomingModel) → AreNamed history entries → NoneIsQuiet quiet entries → IncomingOrdered watch (sent_messages queued history) quiet got base read old → MovesOn tsn entries old new → IncomingOrdered watch (sent_messages queued history) quiet got base read new

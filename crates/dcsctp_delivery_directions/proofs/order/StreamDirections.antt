@@ -1,6 +1,6 @@
 -- With interleaving, on each stream that is never reset and has no limits, what is read is a prefix
 -- of what was queued, also where other streams are reset, and messages of others are abandoned.
-use Rattle.std.proofs.Common.{◌≡◌, ◌==◌, ℕ, Bool, true, false, ◌<◌, ◌≤◌, ◌%◌, ◌+◌, ◌*◌, ◌^◌, List, [], ◌∷◌, ◌++◌, length, length-append, refl, sym, ◌∙◌, ap, arith, subst, inl, inr}
+use Rattle.std.proofs.Common.{◌≡◌, ◌==◌, ℕ, Bool, true, false, ◌<◌, ◌≤◌, ◌+◌, ◌*◌, ◌^◌, List, [], ◌∷◌, ◌++◌, length, length-append, refl, sym, ◌∙◌, ap, arith, subst, inl, inr}
 use Rattle.std.specs.Prelude.{◌&&◌, ◌||◌, not, Some, if◌then◌else◌}
 use Rattle.std.specs.List.{AllByRecursion}
 use Rattle.std.proofs.lemmas.Bool.{eq-eqb}
@@ -17,7 +17,7 @@ use Rattle.dcsctp_delivery_directions.specs.sending.Places.{at_place}
 use Rattle.dcsctp_delivery_directions.specs.sending.Log.{Fits, Message, Slot, History, IsLogOfPieces, new_history, sent_messages}
 use Rattle.dcsctp_delivery_directions.specs.sending.Flushes.{InFlight}
 use Rattle.dcsctp_delivery_directions.specs.sending.Losing.{IsOpenOn, AllWaitOn, AreUnlimited, AreUnlimitedOn, StillWaits, IsKept}
-use Rattle.dcsctp_delivery_directions.specs.sending.Numbers.{is_handed_out, stream_named}
+use Rattle.dcsctp_delivery_directions.specs.sending.Numbers.{is_handed_out, stream_named, AreFloorsAtZero}
 use Rattle.dcsctp_delivery_directions.specs.sending.Queueing.{QueueWaits, floors_raised}
 use Rattle.dcsctp_delivery_directions.proofs.sending.Chunks.{kinds_of}
 use Rattle.dcsctp_delivery_directions.proofs.sending.Counting.{told}
@@ -67,12 +67,12 @@ free_on : (id : ℕ) (queued : List Message) (history : History) → IsLogOfPiec
 free_on id queued history cut are n f at on ordered from = unlimited_on_at id queued f.place f.message are (cut.pieces n f at).at on
 
 -- A stream that is kept isn't among those that are prepared to be reset.
-not_named : (beginning : Beginning) (count id : ℕ) (ids : List ℕ) → beginning.keeps id ≡ true → AllByRecursion (MayReset beginning count) ids → is_named ids id ≡ false
-not_named beginning count id [] kept may = refl
-not_named beginning count id (other ∷ ids) kept may =
+not_named : (beginning : Beginning) (count : ℕ) (streams : List Stream) (id : ℕ) (ids : List ℕ) → beginning.keeps id ≡ true → AllByRecursion (MayReset beginning count streams) ids → is_named ids id ≡ false
+not_named beginning count streams id [] kept may = refl
+not_named beginning count streams id (other ∷ ids) kept may =
     elim (eqb_tells other id) [
       | inl e ↦ absurd (let no : true ≡ false = sym kept ∙ ap beginning.keeps (sym e.1) ∙ may.0.dropped in cc)
-      | inr e ↦ rw e.0 (not_named beginning count id ids kept may.1)
+      | inr e ↦ rw e.0 (not_named beginning count streams id ids kept may.1)
     ]
 
 -- It isn't handed out.
@@ -116,7 +116,7 @@ unlimited_earlier id old _ (takes message messages ready) are = are
 pub step_open : (id : ℕ) (old direction : Direction) (step : DirectionStep old direction) → old.beginning.keeps id ≡ true → IsOpenOn id old.queues.queue.streams → IsOpenOn id direction.queues.queue.streams
 step_open id old _ (queues now sending fits some) keeps are = queueing_open_on id now sending old.queues.queue are
 step_open id old _ (sets setting fits) keeps are = setting_open_on id setting old.queues.queue are
-step_open id old _ (prepares ids fit dropped) keeps are = preparing_open_on id ids old.queues.queue (not_named old.beginning (length old.queued) id ids keeps dropped) are
+step_open id old _ (prepares ids fit dropped) keeps are = preparing_open_on id ids old.queues.queue (not_named old.beginning (length old.queued) old.queues.queue.streams id ids keeps dropped) are
 step_open id old _ (commits go_on) keeps are = committing_open_on id old.queues.queue are
 step_open id old _ (rolls_back unmixed) keeps are = rolling_back_open_on id old.queues.queue are
 step_open id old _ (flushes e draft answers same no_data allowed) keeps are =
@@ -169,7 +169,7 @@ module _ (id first : ℕ) (old : Direction) (s : Stands first old) (are : AreUnl
   keeps_on : (direction : Direction) (step : DirectionStep old direction) → old.beginning.keeps id ≡ true → InFlight new first direction.acknowledged direction.queues.transfer → IsKept new.log direction.queues.queue.streams place
   keeps_on _ (queues now sending fits some) keeps flight = kept_waits s.history new more old.queues.queue.streams (sending_queued now sending old.queues.queue).streams place grows (queueing_waits now sending old.queues.queue place) kept
   keeps_on _ (sets setting fits) keeps flight = kept_waits s.history new more old.queues.queue.streams (set_in_queue setting old.queues.queue).streams place grows (setting_waits setting old.queues.queue place) kept
-  keeps_on _ (prepares ids fit dropped) keeps flight = kept_waits s.history new more old.queues.queue.streams (prepared_all ids old.queues.queue).streams place grows (prepares_keeps ids (not_named old.beginning (length old.queued) id ids keeps dropped)) kept
+  keeps_on _ (prepares ids fit dropped) keeps flight = kept_waits s.history new more old.queues.queue.streams (prepared_all ids old.queues.queue).streams place grows (prepares_keeps ids (not_named old.beginning (length old.queued) old.queues.queue.streams id ids keeps dropped)) kept
   keeps_on _ (commits go_on) keeps flight = kept_waits s.history new more old.queues.queue.streams (queue_committed old.queues.queue).streams place grows (committing_waits old.queues.queue place) kept
   keeps_on _ (rolls_back unmixed) keeps flight = kept_waits s.history new more old.queues.queue.streams (queue_rolled_back old.queues.queue).streams place grows (rolling_back_waits old.queues.queue place) kept
   keeps_on _ (flushes e draft answers same no_data allowed) keeps flight =
@@ -215,12 +215,12 @@ record GoesOnGapless (gapless : ℕ → Bool) (first : ℕ) (direction : Directi
   stands : Stands first direction
   named : NamedAreOut stands.history direction.asking.out direction.queues.queue.streams
   unended : direction.queues.queue.is_interleaved ≡ true → Unended direction.asking
-  zero : direction.queues.queue.is_interleaved ≡ true → direction.beginning.from_zero ≡ true → (id : ℕ) → stands.history.floors id false % 2 ^ 32 ≡ 0
+  zero : direction.queues.queue.is_interleaved ≡ true → direction.beginning.from_zero ≡ true → (id : ℕ) → AreFloorsAtZero stands.history.floors id
   unpaused : (id : ℕ) → gapless id ≡ true → IsOpenOn id direction.queues.queue.streams
   current : direction.queues.queue.is_interleaved ≡ true → (id : ℕ) → gapless id ≡ true → CurrentOn id stands.history
   lost : direction.queues.queue.is_interleaved ≡ true → (id : ℕ) → gapless id ≡ true → NoneLostOn id direction.queued stands.history.log direction.queues.queue.streams
   arrives : length stands.history.log < 2 ^ 31 → direction.queues.queue.is_interleaved ≡ true → direction.beginning.from_zero ≡ true
-      → Arrives (uncut any_asked) first stands.history direction.queued direction.read direction.tracker direction.reassembly direction.queues.queue.streams
+      → Arrives (uncut false any_asked) first stands.history direction.queued direction.read direction.tracker direction.reassembly direction.queues.queue.streams
 
 -- They were kept before a step, and none of them had limits.
 kept_before : (gapless : ℕ → Bool) (old direction : Direction) → DirectionStep old direction → AreKept gapless direction.beginning → AreKept gapless old.beginning
@@ -232,7 +232,7 @@ free_before gapless old direction step are id is = unlimited_earlier id old dire
 -- ---- an association begins
 
 begins_so : (gapless : ℕ → Bool) (first : ℕ) (direction : Direction) (s : Stands first direction) (floors : ℕ → Bool → ℕ) → s.history ≡ new_history floors → direction.asking.out ≡ 0 → direction.asking.requests ≡ []
-    → (direction.beginning.from_zero ≡ true → (id : ℕ) → floors id false % 2 ^ 32 ≡ 0)
+    → (direction.beginning.from_zero ≡ true → (id : ℕ) → AreFloorsAtZero floors id)
     → ((id : ℕ) → gapless id ≡ true → AllWaitOn id direction.queued direction.queues.queue.streams) → GoesOnGapless gapless first direction
 begins_so gapless first direction s floors is none_out none_asked at_zero all =
     let empty : s.history.log ≡ [] = ap (λ (h : History). h.log) is in
@@ -240,7 +240,7 @@ begins_so gapless first direction s floors is none_out none_asked at_zero all =
       stands = s;
       named = λ mark earlier has some. absurd (omega (arith, some, none_out));
       unended = λ interleaved unknown. inl none_asked;
-      zero = λ interleaved from id. ap (λ (h : History). h.floors id false % 2 ^ 32) is ∙ at_zero from id;
+      zero = λ interleaved from id. subst (λ (h : History). AreFloorsAtZero h.floors id) (sym is) (at_zero from id);
       unpaused = λ id is. (all id is).unpaused;
       current = λ interleaved id is n f at. absurd (let none : at_place n [] ≡ Some (Some f) = ap (λ (l : List Slot). at_place n l) (sym empty) ∙ at in cc);
       lost = λ interleaved id is place message at on. inr ((all id is).waits place message at on);
@@ -251,7 +251,7 @@ begins_so gapless first direction s floors is none_out none_asked at_zero all =
             were = a.were;
             once = a.once;
             quiet = none_quiet;
-            received = received_none direction.queued s.history empty any_asked first a.places direction.tracker direction.reassembly a.received;
+            received = received_none direction.queued s.history empty false any_asked first a.places direction.tracker direction.reassembly a.received;
             silent = λ other silent. absurd (cc);
           }
           );
@@ -269,7 +269,7 @@ gapless_goes_on gapless first old small g direction few are step kept ends =
       stands = s;
       named = c.named g.named;
       unended = λ interleaved. k.unended (g.unended (sym k.kind ∙ interleaved));
-      zero = λ interleaved from id. ap (λ (floors : ℕ → Bool → ℕ). floors id false % 2 ^ 32) c.floors ∙ g.zero (sym k.kind ∙ interleaved) (sym k.start ∙ from) id;
+      zero = λ interleaved from id. subst (λ (floors : ℕ → Bool → ℕ). AreFloorsAtZero floors id) (sym c.floors) (g.zero (sym k.kind ∙ interleaved) (sym k.start ∙ from) id);
       unpaused = λ id is. step_open id old direction step (kept id is) (g.unpaused id is);
       current = λ interleaved id is n f at on kind. subst (λ (floors : ℕ → Bool → ℕ). floors f.message.stream f.message.is_unordered ≤ f.mid) (sym c.floors) (
           elim (at_either c.more g.stands.history.log n (Some f) (ap (λ (l : List Slot). at_place n l) (sym c.log) ∙ at)) [
@@ -282,8 +282,8 @@ gapless_goes_on gapless first old small g direction few are step kept ends =
           let sizes : length s.history.log ≡ length (c.more ++ g.stands.history.log) = ap (λ (l : List Slot). length l) c.log in
           let before : length g.stands.history.log < 2 ^ 31 = omega (arith, little, sizes, length-append c.more g.stands.history.log) in
           let was : old.queues.queue.is_interleaved ≡ true = sym k.kind ∙ interleaved in
-          arrives_later (uncut any_asked) first g.stands.history s.history old.queues.queue.streams direction.queues.queue.streams old.asking.out direction.asking.out c direction.queued [] direction.read direction.tracker direction.reassembly
-          (arrives_on (uncut any_asked) first old small g.stands (asked_always old.queued g.stands.history) before was direction step ends g.named (g.unended was) (g.arrives before was (sym k.start ∙ from)))
+          arrives_later (uncut false any_asked) first g.stands.history s.history old.queues.queue.streams direction.queues.queue.streams old.asking.out direction.asking.out c direction.queued [] direction.read direction.tracker direction.reassembly
+          (arrives_on (uncut false any_asked) first old small g.stands (asked_always old.queued g.stands.history) before was direction step ends g.named (g.unended was) (λ id known. absurd (cc)) (g.arrives before was (sym k.start ∙ from)))
           (λ id loud since cut has. absurd has)
           );
     }
@@ -306,8 +306,8 @@ gapless_steps gapless first old small g _ few are (commits go_on) kept =
       stands = s;
       named = λ mark earlier is some. absurd (omega (arith, some));
       unended = λ interleaved unknown. absurd (let clash : true ≡ false = sym (go_on interleaved).1 ∙ unknown in cc);
-      zero = λ interleaved from id. subst (λ (h : History). h.floors id false % 2 ^ 32 ≡ 0) (sym (raises interleaved))
-          (raised_zero (is_handed_out (stream_named id old.queues.queue.streams).pause) (g.stands.history.floors id false) (length g.stands.history.log) (g.zero interleaved from id));
+      zero = λ interleaved from id. subst (λ (h : History). AreFloorsAtZero h.floors id) (sym (raises interleaved))
+          (raised_zero (is_handed_out (stream_named id old.queues.queue.streams).pause) (g.stands.history.floors id false) (g.stands.history.floors id true) (length g.stands.history.log) (g.zero interleaved from id));
       unpaused = λ id is. committing_open_on id old.queues.queue (g.unpaused id is);
       current = λ interleaved id is. subst (λ (h : History). CurrentOn id h) (sym (raises interleaved))
           (current_raised id g.stands.history old.queues.queue.streams (g.unpaused id is) (g.current interleaved id is));
@@ -315,8 +315,8 @@ gapless_steps gapless first old small g _ few are (commits go_on) kept =
           step_keeps_on id first old g.stands _ (commits go_on) (kept id is) (are id is) s [] (ap (λ (h : History). h.log) (raises interleaved)) (g.lost interleaved id is);
       arrives = λ little interleaved from. (
           let before : length g.stands.history.log < 2 ^ 31 = subst (λ (h : History). length h.log < 2 ^ 31) (raises interleaved) little in
-          subst (λ (h : History). Arrives (uncut any_asked) first h old.queued old.read old.tracker old.reassembly (queue_committed old.queues.queue).streams) (sym (raises interleaved))
-          (committing_arrives (uncut any_asked) first old small g.stands (asked_always old.queued g.stands.history) before interleaved (go_on interleaved).0 (go_on interleaved).1 (g.zero interleaved from) (g.arrives before interleaved from))
+          subst (λ (h : History). Arrives (uncut false any_asked) first h old.queued old.read old.tracker old.reassembly (queue_committed old.queues.queue).streams) (sym (raises interleaved))
+          (committing_arrives (uncut false any_asked) first old small g.stands (asked_always old.queued g.stands.history) before interleaved (go_on interleaved).0 (go_on interleaved).1 (g.zero interleaved from) (g.arrives before interleaved from) (λ id. []) (λ id shut. refl) (λ got same base o id handed cut has. absurd has))
           );
     }
 gapless_steps gapless first old small g _ few are (rolls_back unmixed) kept =
@@ -419,17 +419,17 @@ gapless_of direction id = direction.beginning.keeps id && are_unlimited_on id di
 module _ (direction : Direction) (history : History) (cut : IsLogOfPieces direction.queued history.log) (counts : (id : ℕ) → CountsFromZero history id)
     (turns : (id : ℕ) → gapless_of direction id ≡ true → SendsInTurn direction.queued history id) where
   read_gapless : (quiet : ℕ → Bool) → ((id : ℕ) → gapless_of direction id ≡ true → quiet id ≡ false) → (got : List ℕ) (base : ℕ) (places : List ℕ) → WereQueued direction.queued places direction.read → AreDistinct places
-      → IncomingOrdered (uncut any_asked) (sent_messages direction.queued history) quiet got base places direction.reassembly.incoming → AreDeliveredByStream direction.beginning.keeps direction.queued direction.read
+      → IncomingOrdered (uncut false any_asked) (sent_messages direction.queued history) quiet got base places direction.reassembly.incoming → AreDeliveredByStream direction.beginning.keeps direction.queued direction.read
   read_gapless quiet loud got base places were once o =
       record {
         ordered = record {
           delivered = record { places = places; were_queued = were; once = once };
-          in_order = λ id. ordered_was_read (uncut any_asked) direction.queued history quiet got base places direction.reassembly.incoming id (counts id) o;
+          in_order = λ id. ordered_was_read (uncut false any_asked) direction.queued history quiet got base places direction.reassembly.incoming id (counts id) o;
         };
         no_gap = λ id kept are. (
             let is : gapless_of direction id ≡ true = rw kept (so_unlimited id direction.queued are) in
-            let here : OrderedStream (uncut any_asked id) direction.queued history id (places ++ o.holds.places) (o.holds.waits id) (stream_on id direction.reassembly.incoming.streams) =
-            subst (λ (b : Bool). IsOrderedOrReset (uncut any_asked id) b (sent_messages direction.queued history) id (places ++ o.holds.places) (o.holds.waits id) (stream_on id direction.reassembly.incoming.streams)) (loud id is) (o.order id (counts id)) in
+            let here : OrderedStream (uncut false any_asked id) direction.queued history id (places ++ o.holds.places) (o.holds.waits id) (stream_on id direction.reassembly.incoming.streams) =
+            subst (λ (b : Bool). IsOrderedOrReset (uncut false any_asked id) b (sent_messages direction.queued history) id (places ++ o.holds.places) (o.holds.waits id) (stream_on id direction.reassembly.incoming.streams)) (loud id is) (o.order id (counts id)) in
             no_gap_front direction.queued id places o.holds.places here.order.in_order
             (filled_no_gap direction.queued history id (places ++ o.holds.places) (o.holds.waits id) (stream_on id direction.reassembly.incoming.streams) (counts id) (turns id is) here.order
             (all_filled (any_asked id) direction.queued history id (places ++ o.holds.places) (stream_on id direction.reassembly.incoming.streams).next (free_on id direction.queued history cut are) here.by_epoch))
@@ -437,7 +437,7 @@ module _ (direction : Direction) (history : History) (cut : IsLogOfPieces direct
       }
 
   read_so : (quiet : ℕ → Bool) → ((id : ℕ) → gapless_of direction id ≡ true → quiet id ≡ false) → (first : ℕ) (got places : List ℕ) → WereQueued direction.queued places direction.read → AreDistinct places
-      → ReassemblesInOrder (uncut any_asked) (sent_messages direction.queued history) quiet first got places direction.reassembly.incoming → AreDeliveredByStream direction.beginning.keeps direction.queued direction.read
+      → ReassemblesInOrder (uncut false any_asked) (sent_messages direction.queued history) quiet first got places direction.reassembly.incoming → AreDeliveredByStream direction.beginning.keeps direction.queued direction.read
   read_so quiet loud first got places were once (none_handled none last empty) = read_gapless quiet loud [] 0 places were once (empty 0)
   read_so quiet loud first got places were once (some_handled base at holds) = read_gapless quiet loud got base places were once holds
 

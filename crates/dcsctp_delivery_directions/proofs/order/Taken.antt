@@ -1,5 +1,5 @@
 -- What the user takes of what was received, and more that the peer queues and sends.
-use Rattle.std.proofs.Common.{◌≡◌, ℕ, Bool, List, [], ◌∷◌, ◌++◌, length, refl, arith, inl, false}
+use Rattle.std.proofs.Common.{◌≡◌, ℕ, Bool, List, [], ◌∷◌, ◌++◌, length, refl, arith, inl, false, Some, sym, ◌∙◌, true}
 use Rattle.dcsctp_spec_lemmas.specs.types.queues.Messages.{MessageContent}
 use Rattle.dcsctp_spec_lemmas.specs.spec.queues.Incoming.{IncomingModel, stream_on}
 use Rattle.dcsctp_spec_lemmas.specs.spec.queues.Reassembly.{ReassemblyState, waiting_of, with_ready}
@@ -12,10 +12,13 @@ use Rattle.dcsctp_delivery_directions.proofs.receiving.Distinct.{has_left, has_r
 use Rattle.dcsctp_delivery_directions.proofs.receiving.Growing.{holds_more}
 use Rattle.dcsctp_delivery_directions.proofs.receiving.Tracked.{more_given_out}
 use Rattle.dcsctp_delivery_directions.proofs.receiving.Waiting.{both_queued}
-use Rattle.dcsctp_delivery_directions.specs.order.Incoming.{IncomingOrdered, IsWithin}
+use Rattle.dcsctp_delivery_directions.specs.order.Incoming.{IncomingOrdered, IsWithin, SendsNoMore}
 use Rattle.dcsctp_delivery_directions.specs.order.Received.{ReassemblesInOrder, none_handled, some_handled, HasReceivedInOrder}
-use Rattle.dcsctp_delivery_directions.proofs.order.Incoming.{growing_in_order, taking_in_order}
+use Rattle.dcsctp_delivery_directions.proofs.order.Incoming.{growing_in_order, taking_in_order, counts_before}
 use Rattle.dcsctp_delivery_directions.specs.order.Reading.{Watch, ComeSince}
+use Rattle.dcsctp_delivery_directions.proofs.order.HeldParts.{parts_grown}
+use Rattle.dcsctp_delivery_directions.proofs.sending.Places.{at_some}
+use Rattle.dcsctp_delivery_directions.specs.receiving.Tracked.{tracked_number}
 
 -- ---- what the user takes
 
@@ -44,6 +47,8 @@ takes_in_order watch queued history quiet first read tracker reassembly message 
             tracks = r.tracks;
             got_taken = r.got_taken;
             later_taken = r.later_taken;
+            either = r.either;
+            exact = r.exact;
             apart = r.apart;
             distinct = r.distinct;
             holds = some_handled base at t.ordered;
@@ -58,21 +63,23 @@ takes_in_order watch queued history quiet first read tracker reassembly message 
 -- ---- the peer goes on
 
 module _ (queued more : List Message) (history later : History) (goes : GoesOn history later) (within : IsWithin history later) (quiet : ℕ → Bool) (read : List ℕ) (contents : List MessageContent) (were : WereQueued queued read contents) where
-  ordered_more : (watch : ℕ → Watch) → ((id : ℕ) → quiet id ≡ false → ComeSince history id (watch id).cuts → ComeSince later id (watch id).cuts) → (got : List ℕ) (base : ℕ) (incoming : IncomingModel) → IncomingOrdered watch (sent_messages queued history) quiet got base read incoming → IncomingOrdered watch (sent_messages (more ++ queued) later) quiet got base read incoming
+  ordered_more : (watch : ℕ → Watch) → ((id : ℕ) → quiet id ≡ false → ComeSince history id (watch id).cuts → ComeSince later id (watch id).cuts) → ((id : ℕ) → quiet id ≡ true → SendsNoMore history later id) → (got : List ℕ) (base : ℕ) (incoming : IncomingModel) → IncomingOrdered watch (sent_messages queued history) quiet got base read incoming → IncomingOrdered watch (sent_messages (more ++ queued) later) quiet got base read incoming
   unfolding holds_more
-  ordered_more watch fresh got base incoming o =
+  ordered_more watch fresh silent got base incoming o =
       record {
         holds = holds_more queued more history later goes got base read incoming o.holds;
-        order = λ id counts. growing_in_order (watch id) queued more history later (quiet id) id (read ++ o.holds.places) (o.holds.waits id) (contents ++ incoming.ready) (stream_on id incoming.streams) within (fresh id)
+        order = λ id counts. growing_in_order (watch id) queued more history later (quiet id) id (read ++ o.holds.places) (o.holds.waits id) (contents ++ incoming.ready) (stream_on id incoming.streams) within (fresh id) (silent id)
             (both_queued queued read o.holds.places contents incoming.ready were o.holds.were_queued) counts (o.order id);
+        within = λ n has. (let below = o.within n has in let longer = goes.longer in omega (arith, below, longer));
+        parts = λ id counts unlimited loud. parts_grown history later got id (stream_on id incoming.streams) within.stays within.floors o.within unlimited (λ before. o.parts id (counts_before queued more history later id within counts) before loud);
       }
 
-  pub reassembles_more : (watch : ℕ → Watch) → ((id : ℕ) → quiet id ≡ false → ComeSince history id (watch id).cuts → ComeSince later id (watch id).cuts) → (first : ℕ) (got : List ℕ) (incoming : IncomingModel) → ReassemblesInOrder watch (sent_messages queued history) quiet first got read incoming → ReassemblesInOrder watch (sent_messages (more ++ queued) later) quiet first got read incoming
-  reassembles_more watch fresh first got incoming (none_handled none last empty) = none_handled none last (λ base. ordered_more watch fresh [] base incoming (empty base))
-  reassembles_more watch fresh first got incoming (some_handled base is holds) = some_handled base is (ordered_more watch fresh got base incoming holds)
+  pub reassembles_more : (watch : ℕ → Watch) → ((id : ℕ) → quiet id ≡ false → ComeSince history id (watch id).cuts → ComeSince later id (watch id).cuts) → ((id : ℕ) → quiet id ≡ true → SendsNoMore history later id) → (first : ℕ) (got : List ℕ) (incoming : IncomingModel) → ReassemblesInOrder watch (sent_messages queued history) quiet first got read incoming → ReassemblesInOrder watch (sent_messages (more ++ queued) later) quiet first got read incoming
+  reassembles_more watch fresh silent first got incoming (none_handled none last empty) = none_handled none last (λ base. ordered_more watch fresh silent [] base incoming (empty base))
+  reassembles_more watch fresh silent first got incoming (some_handled base is holds) = some_handled base is (ordered_more watch fresh silent got base incoming holds)
 
-  pub received_later : (watch : ℕ → Watch) → ((id : ℕ) → quiet id ≡ false → ComeSince history id (watch id).cuts → ComeSince later id (watch id).cuts) → (first : ℕ) (tracker : TrackerState) (reassembly : ReassemblyState) → HasReceivedInOrder watch (sent_messages queued history) quiet first read tracker reassembly → HasReceivedInOrder watch (sent_messages (more ++ queued) later) quiet first read tracker reassembly
-  received_later watch fresh first tracker reassembly r =
+  pub received_later : (watch : ℕ → Watch) → ((id : ℕ) → quiet id ≡ false → ComeSince history id (watch id).cuts → ComeSince later id (watch id).cuts) → ((id : ℕ) → quiet id ≡ true → SendsNoMore history later id) → (first : ℕ) (tracker : TrackerState) (reassembly : ReassemblyState) → HasReceivedInOrder watch (sent_messages queued history) quiet first read tracker reassembly → HasReceivedInOrder watch (sent_messages (more ++ queued) later) quiet first read tracker reassembly
+  received_later watch fresh silent first tracker reassembly r =
       record {
         taken = r.taken;
         got = r.got;
@@ -80,8 +87,15 @@ module _ (queued more : List Message) (history later : History) (goes : GoesOn h
         tracks = more_given_out first (length history.log) (length later.log) r.taken tracker goes.longer r.tracks;
         got_taken = r.got_taken;
         later_taken = r.later_taken;
+        either = r.either;
+        exact = λ small k is known. (
+            let sent = r.tracks.sent (tracked_number first k) known in
+            let (slot, at) = at_some k history.log (omega (arith, sent)) in
+            let same : Some slot ≡ Some (Some is.piece) = sym (within.stays k slot at) ∙ is.at in
+            r.exact small k (record { piece = is.piece; at = at ∙ same; free = is.free; known = is.known }) known
+            );
         apart = r.apart;
         distinct = r.distinct;
-        holds = reassembles_more watch fresh first r.got reassembly.incoming r.holds;
+        holds = reassembles_more watch fresh silent first r.got reassembly.incoming r.holds;
         defers = defers_more history later goes first r.later (waiting_of reassembly.deferral) r.defers;
       }

@@ -1,5 +1,5 @@
 -- A stream of which nothing was sent is in order.
-use Rattle.std.proofs.Common.{◌≡◌, ℕ, Bool, true, ◌+◌, ◌^◌, List, [], ◌∷◌, ◌++◌, sym, ◌∙◌, ap, arith, subst}
+use Rattle.std.proofs.Common.{◌≡◌, ℕ, Bool, true, ◌+◌, ◌^◌, List, [], ◌∷◌, ◌++◌, sym, ◌∙◌, ap, arith, subst, length}
 use Rattle.std.specs.Prelude.{Some}
 use Rattle.dcsctp_spec_lemmas.specs.spec.queues.Runs.{WholeModel}
 use Rattle.dcsctp_spec_lemmas.specs.spec.queues.IncomingStreams.{StreamModel}
@@ -10,7 +10,7 @@ use Rattle.dcsctp_delivery_directions.specs.sending.Places.{HasEntry, at_place}
 use Rattle.dcsctp_delivery_directions.specs.sending.Log.{Message, Slot, History, IsLogOfPieces, sent_messages}
 use Rattle.dcsctp_delivery_directions.specs.sending.Numbers.{AreOfKind}
 use Rattle.dcsctp_delivery_directions.specs.receiving.Clear.{Unsent}
-use Rattle.dcsctp_delivery_directions.specs.receiving.Ready.{WaitQueued, IsNear, fresh, near, HoldsIncoming}
+use Rattle.dcsctp_delivery_directions.specs.receiving.Ready.{WaitQueued, IsNear, fresh, near, HoldsIncoming, ordered_base}
 use Rattle.dcsctp_delivery_directions.specs.receiving.Received.{Reassembles, untouched, placed, HasReceived}
 use Rattle.dcsctp_delivery_directions.specs.order.Queue.{IsOrderedOn, AreSeparated}
 use Rattle.dcsctp_delivery_directions.specs.order.Order.{AreReadAs}
@@ -19,6 +19,8 @@ use Rattle.dcsctp_delivery_directions.specs.order.Reading.{OrderedStream, Watch,
 use Rattle.dcsctp_delivery_directions.specs.order.Incoming.{IncomingOrdered}
 use Rattle.dcsctp_delivery_directions.specs.order.Received.{none_quiet, ReassemblesInOrder, none_handled, some_handled, HasReceivedInOrder}
 use Rattle.dcsctp_delivery_directions.proofs.order.Order.{in_order_none}
+use Rattle.dcsctp_delivery_directions.proofs.order.HeldParts.{parts_none}
+use Rattle.dcsctp_delivery_directions.specs.receiving.Tracked.{tracked_number}
 
 is_first : (next : ℕ) → IsNear (next + 1) next → next ≡ 2 ^ 32
 is_first next (fresh e) = e
@@ -68,22 +70,25 @@ module _ (queued : List Message) (history : History) (empty : history.log ≡ []
         ascends = λ m n f g less at at'. absurd (nowhere m (Some f) at);
         climbs = λ m n f g less at at'. absurd (nowhere m (Some f) at);
         shuts = λ n f at. absurd (nowhere n (Some f) at);
+        ends = λ m n f g less at. absurd (nowhere m (Some f) at);
       }
 
-  holds_none : (asks : ℕ → ℕ → Bool) (got : List ℕ) (base : ℕ) (read : List ℕ) (incoming : IncomingModel) → HoldsIncoming queued history got base read incoming → IncomingOrdered (uncut asks) (sent_messages queued history) none_quiet got base read incoming
-  holds_none asks got base read incoming holds =
+  holds_none : (knows_all : Bool) (asks : ℕ → ℕ → Bool) (got : List ℕ) (base : ℕ) (read : List ℕ) (incoming : IncomingModel) → ((n : ℕ) → HasEntry n got → ⊥) → HoldsIncoming queued history got base read incoming → IncomingOrdered (uncut knows_all asks) (sent_messages queued history) none_quiet got base read incoming
+  holds_none knows_all asks got base read incoming none holds =
       record {
         holds = holds;
-        order = λ id counts. unsent_ordered queued history id no_cut (λ n f at. absurd (nowhere n (Some f) at)) (λ n f at on. absurd (nowhere n (Some f) at)) (uncut asks id) got base read incoming holds (λ cut has. absurd has);
+        order = λ id counts. unsent_ordered queued history id no_cut (λ n f at. absurd (nowhere n (Some f) at)) (λ n f at on. absurd (nowhere n (Some f) at)) (uncut knows_all asks id) got base read incoming holds (λ cut has. absurd has);
+        within = λ n has. absurd (none n has);
+        parts = λ id counts unlimited loud. parts_none history got (ordered_base base) id (stream_on id incoming.streams) (holds.streams_hold id).rows.ordered (λ n f at on. nowhere n (Some f) at);
       }
 
-  pub reassembles_none : (asks : ℕ → ℕ → Bool) (first : ℕ) (got read : List ℕ) (incoming : IncomingModel) → Reassembles queued history first got read incoming → ReassemblesInOrder (uncut asks) (sent_messages queued history) none_quiet first got read incoming
-  reassembles_none asks first got read incoming (untouched none' last empty') = none_handled none' last (λ base. holds_none asks [] base read incoming (empty' base))
-  reassembles_none asks first got read incoming (placed base is holds) = some_handled base is (holds_none asks got base read incoming holds)
+  pub reassembles_none : (knows_all : Bool) (asks : ℕ → ℕ → Bool) (first : ℕ) (got read : List ℕ) (incoming : IncomingModel) → ((n : ℕ) → HasEntry n got → ⊥) → Reassembles queued history first got read incoming → ReassemblesInOrder (uncut knows_all asks) (sent_messages queued history) none_quiet first got read incoming
+  reassembles_none knows_all asks first got read incoming none (untouched none' last empty') = none_handled none' last (λ base. holds_none knows_all asks [] base read incoming (λ n has. absurd has) (empty' base))
+  reassembles_none knows_all asks first got read incoming none (placed base is holds) = some_handled base is (holds_none knows_all asks got base read incoming none holds)
 
-  pub received_none : (asks : ℕ → ℕ → Bool) (first : ℕ) (read : List ℕ) (tracker : TrackerState) (reassembly : ReassemblyState) → HasReceived queued history first read tracker reassembly
-      → HasReceivedInOrder (uncut asks) (sent_messages queued history) none_quiet first read tracker reassembly
-  received_none asks first read tracker reassembly r =
+  pub received_none : (knows_all : Bool) (asks : ℕ → ℕ → Bool) (first : ℕ) (read : List ℕ) (tracker : TrackerState) (reassembly : ReassemblyState) → HasReceived queued history first read tracker reassembly
+      → HasReceivedInOrder (uncut knows_all asks) (sent_messages queued history) none_quiet first read tracker reassembly
+  received_none knows_all asks first read tracker reassembly r =
       record {
         taken = r.taken;
         got = r.got;
@@ -91,8 +96,19 @@ module _ (queued : List Message) (history : History) (empty : history.log ≡ []
         tracks = r.tracks;
         got_taken = r.got_taken;
         later_taken = r.later_taken;
+        either = λ k has. absurd (none_taken k has);
+        exact = λ small k is. absurd (nowhere k (Some is.piece) is.at);
         apart = r.apart;
         distinct = r.distinct;
-        holds = reassembles_none asks first r.got read reassembly.incoming r.holds;
+        holds = reassembles_none knows_all asks first r.got read reassembly.incoming none_got r.holds;
         defers = r.defers;
       }
+    where
+      none_taken : (n : ℕ) → HasEntry n r.taken → ⊥
+      none_taken n has =
+          let sent = r.tracks.sent (tracked_number first n) (r.tracks.received n has) in
+          let sizes : length history.log ≡ 0 = ap (λ (l : List Slot). length l) empty in
+          omega (arith, sent, sizes)
+
+      none_got : (n : ℕ) → HasEntry n r.got → ⊥
+      none_got n has = none_taken n (r.got_taken n has)

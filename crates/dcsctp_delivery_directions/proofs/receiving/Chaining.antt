@@ -17,7 +17,7 @@ pub data OneKind (log : List Slot) : Type 0 where
 
 pub one_kind : (history : History) → IsUnambiguous history → OneKind history.log
 one_kind history (plain kinds) = data_alone kinds
-one_kind history (interleaved kinds few below apart) = interleaved_alone kinds few
+one_kind history (interleaved kinds few below apart dense) = interleaved_alone kinds few
 
 -- where a part lies, by whether it is of I-DATA
 pub placed_plain : (base : ℕ → ℕ) (offset : ℕ) (piece : Piece) (number place : ℕ) → piece.is_interleaved ≡ false → IsPiecePlaced base offset piece number place → place ≡ base number + offset

@@ -67,6 +67,7 @@ module _ (history wider : History) (goes : GoesOn history wider) where
           later = row.later;
           fsns = row.fsns;
           near = row.near;
+          spread = row.spread;
           some = row.some;
           covered = λ n f at of from to. row.covered n f (earlier_at n row.last_offset (Some f) (Some row.last) row.at_last to at) of from to;
           place = row.place;

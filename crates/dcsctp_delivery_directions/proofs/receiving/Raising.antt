@@ -54,6 +54,7 @@ module _ (queued : List Message) (history : History) (streams : List Stream) whe
         later = row.later;
         fsns = row.fsns;
         near = row.near;
+        spread = row.spread;
         some = row.some;
         covered = row.covered;
         place = row.place;

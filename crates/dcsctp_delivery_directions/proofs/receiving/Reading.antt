@@ -41,7 +41,7 @@ module _ (history : History) (id : ℕ) (is_unordered : Bool) (n : ℕ) (f : Pie
   -- its window begins at the floor
   pub reads_agree : IsUnambiguous history → f.is_interleaved ≡ true → number_near number (f.mid % 2 ^ 32) % 2 ^ 32 ≡ f.mid % 2 ^ 32
   reads_agree (plain kinds) is = absurd (let clash : true ≡ false = sym is ∙ kinds n f at in cc)
-  reads_agree (interleaved kinds few below apart) is =
+  reads_agree (interleaved kinds few below apart dense) is =
       let w : IsWindow history id is_unordered (history.floors id is_unordered) = (record {
         kinds = kinds;
         from = λ m g at' on' kind' current'. floor_of history g id is_unordered on' kind' current';
@@ -57,7 +57,7 @@ same_mid start one other number from below from' below' is is' = omega (arith, i
 pub tells_as : (history : History) → IsUnambiguous history → (is_unordered : Bool) (id m n : ℕ) (f g : Piece) (number : ℕ) → at_place m history.log ≡ Some (Some f) → at_place n history.log ≡ Some (Some g)
     → f.is_interleaved ≡ true → g.is_interleaved ≡ true → (f.message.stream ≡ id) × IsNumberedAs history is_unordered f number → (g.message.stream ≡ id) × IsNumberedAs history is_unordered g number → f.place ≡ g.place
 tells_as history (plain kinds) is_unordered id m n f g number at at' is is' named named' = absurd (let clash : true ≡ false = sym is ∙ kinds m f at in cc)
-tells_as history (interleaved kinds few below apart) is_unordered id m n f g number at at' is is' named named' =
+tells_as history (interleaved kinds few below apart dense) is_unordered id m n f g number at at' is is' named named' =
     let one = named.1 is in
     let two = named'.1 is' in
     apart m n f g at at' (named.0 ∙ sym named'.0) (one.0 ∙ sym two.0)

@@ -27,6 +27,7 @@ module _ (queued : List Message) (log : List Slot) (cut : IsLogOfPieces queued l
         later = omega arith;
         fsns = refl;
         near = λ kind. omega arith;
+        spread = omega arith;
         some = omega arith;
         covered = λ n f at of from to. (let same : n ≡ is.offset = omega (arith, from, to) in subst (λ (k : ℕ). HasEntry k got) (sym same) has);
         place = refl;
@@ -72,6 +73,7 @@ module _ (queued : List Message) (log : List Slot) (cut : IsLogOfPieces queued l
         later = omega (arith, f.later, b.later, less);
         fsns = (let fsns = f.fsns in let fsns' = b.fsns in let fsn = after.fsn in omega (arith, fsns, fsns', fsn, size));
         near = λ kind. chained_near front back f b after kind;
+        spread = (let spread = f.spread in let spread' = b.spread in omega (arith, spread, spread', size, less));
         some = omega (arith, f.some, size);
         covered = λ n g at of from to. elim (leb_tells n f.last_offset) [
           | inl e ↦ f.covered n g at of from e.1

@@ -26,6 +26,7 @@ row_got log got n base Named run row =
       later = row.later;
       fsns = row.fsns;
       near = row.near;
+      spread = row.spread;
       some = row.some;
       covered = λ k f at of from to. inr (row.covered k f at of from to);
       place = row.place;

@@ -17,6 +17,7 @@ use Rattle.dcsctp_delivery_directions.proofs.sending.StreamsNamed.{found_at}
 use Rattle.dcsctp_delivery_directions.proofs.sending.ProducedNumbers.{begun_counts, begun_current}
 use Rattle.dcsctp_delivery_directions.proofs.sending.ProducedTurns.{begun_ssns}
 use Rattle.dcsctp_delivery_directions.proofs.sending.ProducedHeld.{numbers_after, kept_after}
+use Rattle.dcsctp_delivery_directions.proofs.sending.Newest.{newest_from}
 
 -- the number of the message that is begun
 begun_mid : (b : Bool) (history : History) (queue : SendQueueState) (id : ℕ) (is_unordered : Bool) (other : ℕ) → CountsByKind b history queue.streams queue.held → ℕ
@@ -135,6 +136,10 @@ module _ (queued : List Message) (history : History) (max place : ℕ) (queue : 
         row = λ started. absurd (omega arith);
         ascends = λ n f at starts on. beyond_front f.place (stream_at queue.streams place).messages message (all_beyond n f at (on ∙ sym waited.is.stream)) front;
         climbs = λ n f at starts interleaved on kind. climbs_so queue.is_interleaved numbers.counts refl interleaved n f at on kind;
+        ends = λ n f at starts on none. (
+            let on' : f.message.stream ≡ here = on ∙ sym waited.is.stream in
+            numbers.rests here (ap (λ (s : Stream). s.under_way) named ∙ idle) f (newest_from here history.log n f at on' (λ k h above there at_here. none k h above there (at_here ∙ waited.is.stream)))
+            );
         says = it_says queued max queue piece takes;
         queue_holds = it_holds queued max queue piece takes history.log holds new left;
         numbers = numbers_after queued history max queue piece takes holds numbers (inl free) kept new left counted;

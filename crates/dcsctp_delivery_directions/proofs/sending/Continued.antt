@@ -4,11 +4,11 @@ use Rattle.std.specs.Prelude.{◌⊎◌, None, Some, is_some, ◌||◌, not}
 use Rattle.dcsctp_spec.specs.types.declared.sending.UnderWay.{UnderWay}
 use Rattle.dcsctp_spec.specs.types.queues.SendStreams.{Waiting, Stream, front_of, stream_at, progress_size, unused_stream}
 use Rattle.dcsctp_spec.specs.queues.SendQueue.{SendQueueState, queue_interleaves}
-use Rattle.dcsctp_spec.specs.queues.Sending.{fragment, queue_after_producing, size_produced, may_be_abandoned, is_kept_whole}
+use Rattle.dcsctp_spec.specs.queues.Sending.{fragment, queue_after_producing, size_produced, may_be_abandoned}
 use Rattle.dcsctp_delivery_directions.specs.sending.Places.{at_place}
 use Rattle.dcsctp_delivery_directions.specs.sending.Log.{Message, Piece, Slot, newest, newest_on, IsInRow, HasBefore, HasEarlier, History, with_slot}
 use Rattle.dcsctp_delivery_directions.specs.sending.Pieces.{WaitingWasQueued, ComesTo, Going, IsGoing, HoldsQueued, HandsOutPiece}
-use Rattle.dcsctp_delivery_directions.specs.sending.Numbers.{stream_named, is_handed_out, IsCurrent, IsLastBegun, LastIs, CountsByKind, CountsMessages, NumbersMessages}
+use Rattle.dcsctp_delivery_directions.specs.sending.Numbers.{stream_named, is_handed_out, IsCurrent, IsLastBegun, LastIs, CountsByKind, CountsMessages, NumbersMessages, is_always_whole}
 use Rattle.dcsctp_delivery_directions.proofs.sending.Places.{at_below}
 use Rattle.dcsctp_delivery_directions.proofs.sending.StreamWeights.{front_queued}
 use Rattle.dcsctp_delivery_directions.proofs.sending.Streams.{within_streams}
@@ -27,7 +27,7 @@ record ItsNumber (id : ℕ) (log : List Slot) (under_way : UnderWay) : Type 0 wh
   came : (f : Piece) → newest_on id log ≡ Some f → f.mid ≡ mid
 
 -- A message that may be abandoned is kept whole.
-pub limited_whole : (message : Waiting) (queue : SendQueueState) → may_be_abandoned message ≡ true → is_kept_whole message queue ≡ true
+pub limited_whole : (message : Waiting) (queue : SendQueueState) → may_be_abandoned message ≡ true → is_always_whole message queue ≡ true
 limited_whole message queue limited = ap (λ (b : Bool). b || not (queue_interleaves queue)) limited
 
 module _ (queued : List Message) (history : History) (max place : ℕ) (queue : SendQueueState) (message : Waiting) (under_way : UnderWay) (room : 0 < max) (holds : HoldsQueued queued history.log queue.streams)
@@ -222,6 +222,7 @@ module _ (queued : List Message) (history : History) (max place : ℕ) (queue : 
         row = λ some earlier. row_so earlier;
         ascends = λ n f at starts on. absurd (started starts);
         climbs = λ n f at starts interleaved on kind. absurd (started starts);
+        ends = λ n f at starts on none. absurd (started starts);
         says = it_says queued max queue piece takes;
         queue_holds = it_holds queued max queue piece takes history.log holds new left;
         numbers = numbers_after queued history max queue piece takes holds numbers ours kept new left counted;

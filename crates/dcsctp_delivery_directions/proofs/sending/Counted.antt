@@ -1,14 +1,15 @@
 -- How the MIDs are counted as pieces are sent.
-use Rattle.std.proofs.Common.{◌≡◌, ◌≢◌, ℕ, Bool, ◌<◌, ◌+◌, ◌≤◌, ◌%◌, ◌^◌, List, ◌∷◌, refl, sym, ◌∙◌, ap, arith, subst, inl, inr}
+use Rattle.std.proofs.Common.{◌≡◌, ◌≢◌, ℕ, Bool, ◌<◌, ◌+◌, ◌≤◌, ◌%◌, ◌^◌, List, ◌∷◌, refl, sym, ◌∙◌, ap, arith, subst, inl, inr, false, length}
 use Rattle.std.specs.Prelude.{◌⊎◌, Option, None, Some}
 use Rattle.dcsctp_spec.specs.types.declared.sending.UnderWay.{UnderWay}
 use Rattle.dcsctp_spec.specs.types.queues.SendStreams.{Waiting, Stream, front_of}
 use Rattle.dcsctp_delivery_directions.specs.sending.Places.{at_place}
-use Rattle.dcsctp_delivery_directions.specs.sending.Log.{Message, Piece, newest_on, History, with_slot}
-use Rattle.dcsctp_delivery_directions.specs.sending.Numbers.{stream_named, next_mid, IsLastBegun, LastIs, CountsMessages}
-use Rattle.dcsctp_delivery_directions.proofs.sending.Places.{decide, at_cases}
+use Rattle.dcsctp_delivery_directions.specs.sending.Log.{Message, Piece, newest_on, History, with_slot, Slot}
+use Rattle.dcsctp_delivery_directions.specs.sending.Numbers.{stream_named, next_mid, IsLastBegun, LastIs, CountsMessages, AreFloorsClose, IsBegunUnder}
+use Rattle.dcsctp_delivery_directions.proofs.sending.Places.{decide, at_cases, at_stays, at_new}
 use Rattle.dcsctp_delivery_directions.proofs.sending.Newest.{newest_here, newest_else, newest_found, newest_none}
 use Rattle.dcsctp_delivery_directions.proofs.sending.Counting.{Other, set_both, set_here, set_elsewhere, is_or_other}
+use Rattle.std.proofs.lemmas.Bool.Decides.{leb_tells}
 
 -- The message under way has this number, and is kept by its stream.
 abbrev pub GoesOn : List Stream → ℕ → Bool → ℕ → UnderWay → Type 0
@@ -46,8 +47,13 @@ last_else history old new counts more piece other apart same counted was =
           came = λ f e. last.came f (sym (newest_else other piece history.log apart) ∙ e);
         }
 
+-- a message that was begun was begun still
+pub begun_more : (slot : Slot) (log : List Slot) (id mid : ℕ) → IsBegunUnder log id mid → IsBegunUnder (slot ∷ log) id mid
+begun_more slot log id mid b =
+    record { offset = b.offset; piece = b.piece; at = at_stays b.offset slot (Some b.piece) log b.at; stream = b.stream; ordered = b.ordered; start = b.start; under = b.under }
+
 -- the first one of a message
-module _ (history : History) (old new : List Stream) (id : ℕ) (kind : Bool) (piece : Piece) (c : CountsMessages history old)
+module _ (history : History) (old new : List Stream) (id : ℕ) (kind : Bool) (piece : Piece) (c : CountsMessages history old) (starts : piece.start ≡ 0)
     (stream_is : piece.message.stream ≡ id) (kind_is : piece.message.is_unordered ≡ kind) (mid_is : piece.mid ≡ history.floors id kind + c.counts id kind)
     (here : next_mid kind (stream_named id new) % 2 ^ 32 ≡ (next_mid kind (stream_named id old) + 1) % 2 ^ 32)
     (elsewhere : (other : ℕ) (b : Bool) → Other id kind other b → next_mid b (stream_named other new) ≡ next_mid b (stream_named other old))
@@ -111,8 +117,30 @@ module _ (history : History) (old new : List Stream) (id : ℕ) (kind : Bool) (p
           | inl is ↦ subst (λ (k : ℕ). LastIs (with_slot (Some piece) history) new more k (stream_named k new).under_way) (sym is) (going (stream_named id new).under_way refl)
           | inr ne ↦ last_else history old new c.counts more piece other (λ on. ne (sym on ∙ stream_is)) (others other ne) (λ b. more_else other b (λ same. absurd (ne same))) (c.going other)
         ];
+        dense = dense;
       }
     where
+      dense : (other : ℕ) → AreFloorsClose history.floors other → (k : ℕ) → k < more other false → IsBegunUnder (Some piece ∷ history.log) other (history.floors other false + k)
+      dense other anew k less = elim (leb_tells (c.counts other false) k) [
+        | inr low ↦ begun_more (Some piece) history.log other (history.floors other false + k) (c.dense other anew k low.1)
+        | inl high ↦ elim (is_or_other id kind other false) [
+          | inr apart ↦ absurd (let from : c.counts other false ≤ k = high.1 in omega (arith, less, from, more_else other false apart))
+          | inl e ↦
+              (let one : more other false ≡ c.counts other false + 1 = rw e.0 (rw e.1 more_here) in
+              let same : history.floors id kind + c.counts id kind ≡ history.floors other false + c.counts other false = rw e.0 (rw e.1 refl) in
+              let from : c.counts other false ≤ k = high.1 in
+              record {
+                offset = length history.log;
+                piece = piece;
+                at = at_new (Some piece) history.log;
+                stream = stream_is ∙ sym e.0;
+                ordered = kind_is ∙ sym e.1;
+                start = starts;
+                under = omega (arith, mid_is, same, one, less, from);
+              })
+        ]
+      ]
+
       apart : (m n : ℕ) (f g : Piece) → at_place m (Some piece ∷ history.log) ≡ Some (Some f) → at_place n (Some piece ∷ history.log) ≡ Some (Some g) → f.message.stream ≡ g.message.stream
           → f.message.is_unordered ≡ g.message.is_unordered → f.mid ≡ g.mid → f.place ≡ g.place
       apart m n f g at at' same same' mids =
@@ -185,6 +213,7 @@ module _ (history : History) (old new : List Stream) (id : ℕ) (now : UnderWay)
           | inl is ↦ subst (λ (k : ℕ). LastIs (with_slot (Some piece) history) new c.counts k (stream_named k new).under_way) (sym is) (going (stream_named id new).under_way refl)
           | inr ne ↦ last_else history old new c.counts c.counts piece other (λ on. ne (sym on ∙ stream_is)) (others other ne) (λ b. refl) (c.going other)
         ];
+        dense = λ other anew k less. begun_more (Some piece) history.log other (history.floors other false + k) (c.dense other anew k less);
       }
     where
       apart : (m n : ℕ) (f g : Piece) → at_place m (Some piece ∷ history.log) ≡ Some (Some f) → at_place n (Some piece ∷ history.log) ≡ Some (Some g) → f.message.stream ≡ g.message.stream

@@ -1,5 +1,5 @@
 -- How the MIDs of an association are counted.
-use Rattle.std.proofs.Common.{◌≡◌, ◌==◌, ℕ, Bool, true, false, ◌<◌, ◌≤◌, ◌+◌, ◌%◌, ◌^◌, List, [], ◌∷◌, length, refl, sym, ◌∙◌, ap, arith, subst, inl, inr}
+use Rattle.std.proofs.Common.{◌≡◌, ◌==◌, ℕ, zero, Bool, true, false, ◌<◌, ◌≤◌, ◌+◌, ◌%◌, ◌^◌, List, [], ◌∷◌, length, refl, sym, ◌∙◌, ap, arith, subst, inl, inr, suc, ◌*◌, ◌-◌}
 use Rattle.std.specs.Prelude.{◌⊎◌, Option, None, Some, is_some, if◌then◌else◌}
 use Rattle.std.proofs.lemmas.Bool.Decides.{eqb_tells}
 use Rattle.dcsctp_spec.specs.types.declared.ids.StreamId.{StreamId}
@@ -7,7 +7,7 @@ use Rattle.dcsctp_spec.specs.types.declared.sending.UnderWay.{UnderWay}
 use Rattle.dcsctp_spec.specs.types.queues.SendStreams.{Waiting, Stream, front_of}
 use Rattle.dcsctp_spec.specs.queues.SendQueue.{SendQueueState}
 use Rattle.dcsctp_delivery_directions.specs.sending.Log.{History, new_history}
-use Rattle.dcsctp_delivery_directions.specs.sending.Numbers.{stream_named, next_mid, IsLastBegun, LastIs, CountsMessages, CountsTurns, CountsByKind, AreOfKind, NumbersMessages, IsUnambiguous, plain, interleaved}
+use Rattle.dcsctp_delivery_directions.specs.sending.Numbers.{stream_named, next_mid, IsLastBegun, LastIs, CountsMessages, CountsTurns, CountsByKind, AreOfKind, NumbersMessages, IsUnambiguous, plain, interleaved, IsBegunUnder}
 
 -- ---- tables
 
@@ -126,6 +126,35 @@ next_of u (v ∷ messages) w kind next front is =
     go false true e = omega arith
     go false false e = e ∙ omega arith
 
+-- by how much the floor of unordered messages lies higher where an ordered one is under way
+lift_of : Bool → ℕ → ℕ → ℕ
+lift_of true zero floor = 0
+lift_of true (suc count) floor = 2 ^ 32 * (floor + 1)
+lift_of false count floor = 0
+
+lift_whole : (b : Bool) (count floor : ℕ) → lift_of b count floor % 2 ^ 32 ≡ 0
+unfolding lift_of
+lift_whole true zero floor = omega arith
+lift_whole true (suc count) floor = omega arith
+lift_whole false count floor = omega arith
+
+lift_none : (b : Bool) (count floor : ℕ) → (b ≡ true → count ≡ 0) → lift_of b count floor ≡ 0
+unfolding lift_of
+lift_none true zero floor none = refl
+lift_none true (suc count) floor none = absurd (let no = none refl in omega (arith, no))
+lift_none false count floor none = refl
+
+below_lift : (count high low k : ℕ) → high + lift_of true count low < 2 ^ 32 * (low + lift_of false count low + 1) → k < count → ⊥
+unfolding lift_of
+below_lift zero high low k anew less = omega (arith, less)
+below_lift (suc count) high low k anew less = omega (arith, anew)
+
+-- an ordered message isn't counted where an unordered one is under way
+count_apart : (u : UnderWay) (messages : List Waiting) (w : Waiting) → front_of messages ≡ Some w → w.is_unordered ≡ true → count_of (Some u) messages false ≡ 0
+unfolding count_of is_same
+count_apart u [] w front is = absurd (cc)
+count_apart u (v ∷ messages) w front is = (let same : v ≡ w = cc in rw (ap (λ (x : Waiting). x.is_unordered) same ∙ is) refl)
+
 -- each stream's message under way, if it has one, has the last number
 pub counts_rest : (streams : List Stream) (held : Option StreamId) → ((id : ℕ) (u : UnderWay) → (stream_named id streams).under_way ≡ Some u → HasLastNumber streams id u) → Begins true streams held
 unfolding floor_of count_of
@@ -139,17 +168,21 @@ counts_rest streams held each =
         below = λ n f at. absurd (cc);
         apart = λ m n f g at at'. absurd (cc);
         going = λ id. going id (stream_named id streams).under_way refl;
+        dense = λ id anew k less. absurd (below_lift (counts id false) (first id true) (first id false) k anew less);
       };
     }
   where
+    first : ℕ → Bool → ℕ
+    first id b = floor_of (stream_named id streams).under_way (stream_named id streams).messages b (next_mid b (stream_named id streams) % 2 ^ 32)
+
     floors : ℕ → Bool → ℕ
-    floors id b = floor_of (stream_named id streams).under_way (stream_named id streams).messages b (next_mid b (stream_named id streams) % 2 ^ 32)
+    floors id b = first id b + lift_of b (count_of (stream_named id streams).under_way (stream_named id streams).messages false) (first id false)
 
     counts : ℕ → Bool → ℕ
     counts id b = count_of (stream_named id streams).under_way (stream_named id streams).messages b
 
-    next : (id : ℕ) (b : Bool) (u : Option UnderWay) → (stream_named id streams).under_way ≡ u → next_mid b (stream_named id streams) % 2 ^ 32 ≡ (floors id b + counts id b) % 2 ^ 32
-    next id b u is =
+    next_from : (id : ℕ) (b : Bool) (u : Option UnderWay) → (stream_named id streams).under_way ≡ u → next_mid b (stream_named id streams) % 2 ^ 32 ≡ (first id b + counts id b) % 2 ^ 32
+    next_from id b u is =
         subst (λ (v : Option UnderWay). next_mid b (stream_named id streams) % 2 ^ 32
         ≡ (floor_of v (stream_named id streams).messages b (next_mid b (stream_named id streams) % 2 ^ 32) + count_of v (stream_named id streams).messages b) % 2 ^ 32) (sym is) (go u is)
       where
@@ -158,13 +191,20 @@ counts_rest streams held each =
         go None e = omega arith
         go (Some v) e = (let last = each id v e in next_of v (stream_named id streams).messages last.waiting b (λ kind. next_mid kind (stream_named id streams)) last.front last.next)
 
+    next : (id : ℕ) (b : Bool) (u : Option UnderWay) → (stream_named id streams).under_way ≡ u → next_mid b (stream_named id streams) % 2 ^ 32 ≡ (floors id b + counts id b) % 2 ^ 32
+    next id b u is = (let base = next_from id b u is in let lift = lift_whole b (counts id false) (first id false) in omega (arith, base, lift))
+
     going : (id : ℕ) (u : Option UnderWay) → (stream_named id streams).under_way ≡ u → LastIs (new_history floors) streams counts id u
     going id None is = tt
     going id (Some v) is =
         let last = each id v is in
-        let floor : floors id last.waiting.is_unordered ≡ v.mid % 2 ^ 32 =
+        let lift : lift_of last.waiting.is_unordered (counts id false) (first id false) ≡ 0 =
+        lift_none last.waiting.is_unordered (counts id false) (first id false)
+        (λ unordered. ap (λ (u : Option UnderWay). count_of u (stream_named id streams).messages false) is ∙ count_apart v (stream_named id streams).messages last.waiting last.front unordered) in
+        let at_first : first id last.waiting.is_unordered ≡ v.mid % 2 ^ 32 =
         ap (λ (u : Option UnderWay). floor_of u (stream_named id streams).messages last.waiting.is_unordered (next_mid last.waiting.is_unordered (stream_named id streams) % 2 ^ 32)) is
         ∙ floor_here v (stream_named id streams).messages last.waiting (next_mid last.waiting.is_unordered (stream_named id streams) % 2 ^ 32) last.front in
+        let floor : floors id last.waiting.is_unordered ≡ v.mid % 2 ^ 32 = omega (arith, at_first, lift) in
         let count : counts id last.waiting.is_unordered ≡ 1 =
         ap (λ (u : Option UnderWay). count_of u (stream_named id streams).messages last.waiting.is_unordered) is ∙ count_here v (stream_named id streams).messages last.waiting last.front in
         record {
@@ -223,3 +263,10 @@ told history queue numbers small = go queue.is_interleaved numbers.kinds numbers
     go true kinds c =
         interleaved kinds small
         (λ n f at. (let below = c.below n f at in let few = c.few f.message.stream f.message.is_unordered in omega (arith, below, few, small))) c.apart
+        (λ id anew n f at on ordered mid from up. (
+        let below = c.below n f at in
+        let same : history.floors f.message.stream f.message.is_unordered + c.counts f.message.stream f.message.is_unordered ≡ history.floors id false + c.counts id false =
+        ap (λ (k : ℕ). history.floors k f.message.is_unordered + c.counts k f.message.is_unordered) on ∙ ap (λ (b : Bool). history.floors id b + c.counts id b) ordered in
+        let again : history.floors id false + (mid - history.floors id false) ≡ mid = omega (arith, from) in
+        subst (λ (k : ℕ). IsBegunUnder history.log id k) again (c.dense id anew (mid - history.floors id false) (omega (arith, below, same, from, up)))
+        ))

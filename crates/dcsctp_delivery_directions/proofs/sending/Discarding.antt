@@ -5,15 +5,15 @@ use Rattle.dcsctp_spec.specs.endpoint.Event.{Event}
 use Rattle.dcsctp_spec.specs.types.declared.sending.UnderWay.{UnderWay}
 use Rattle.dcsctp_spec.specs.types.queues.SendStreams.{Waiting, Stream, front_of, unused_stream, stream_at, progress_size}
 use Rattle.dcsctp_spec.specs.queues.SendQueue.{SendQueueState}
-use Rattle.dcsctp_spec.specs.queues.Sending.{Fragment, without_rest, released_queue, is_kept_whole, TakesFragment, Discards, IsMessageUnderWay}
+use Rattle.dcsctp_spec.specs.queues.Sending.{Fragment, without_rest, released_queue, TakesFragment, Discards, IsMessageUnderWay, reserve_begun}
 use Rattle.dcsctp_delivery_directions.specs.sending.Places.{at_place}
 use Rattle.dcsctp_delivery_directions.specs.sending.Log.{Message, Piece, newest, newest_on, History, with_slot}
 use Rattle.dcsctp_delivery_directions.specs.sending.Pieces.{WaitingWasQueued, AllQueued, AllBeyond, Ascend, unbegun, Going, IsGoing, HoldsQueued}
-use Rattle.dcsctp_delivery_directions.specs.sending.Numbers.{stream_named, HoldsWhole, NumbersMessages}
+use Rattle.dcsctp_delivery_directions.specs.sending.Numbers.{stream_named, HoldsWhole, NumbersMessages, is_always_whole, RestAtEnds}
 use Rattle.dcsctp_delivery_directions.specs.sending.Weights.{weigh, HasRoomForLog}
 use Rattle.dcsctp_delivery_directions.proofs.sending.Places.{decide}
 use Rattle.dcsctp_delivery_directions.proofs.sending.Weights.{front_weighs, weight_changed, sum_changed}
-use Rattle.dcsctp_delivery_directions.proofs.sending.Newest.{newest_last, is_newest}
+use Rattle.dcsctp_delivery_directions.proofs.sending.Newest.{newest_last, is_newest, newest_found}
 use Rattle.dcsctp_delivery_directions.proofs.sending.StreamWeights.{front_queued}
 use Rattle.dcsctp_delivery_directions.proofs.sending.Streams.{queued_drop, ascend_drop, unbegun_rest}
 use Rattle.dcsctp_delivery_directions.proofs.sending.StreamsNamed.{found_at}
@@ -32,7 +32,7 @@ takes_kind now max old new before after part takes =
 
 -- The rest of the message under way is dropped, and its end may take a TSN. It is one that is kept whole.
 module _ (queued : List Message) (history : History) (old : SendQueueState) (stream message_id : ℕ) (named : IsMessageUnderWay old stream message_id) (holds : HoldsQueued queued history.log old.streams)
-    (numbers : NumbersMessages history old) (whole : is_kept_whole named.message old ≡ true) where
+    (numbers : NumbersMessages history old) (whole : is_always_whole named.message old ≡ true) where
   place_named : stream_named stream old.streams ≡ stream_at old.streams named.place
   place_named = subst (λ (k : ℕ). stream_named k old.streams ≡ stream_at old.streams named.place) named.is (found_at (unused_stream 0 0 0) named.place old.streams named.within holds.distinct)
 
@@ -67,7 +67,7 @@ module _ (queued : List Message) (history : History) (old : SendQueueState) (str
       ]
 
   left : SendQueueState
-  left = released_queue stream (without_rest named.place named.under_way.sent named.message old)
+  left = released_queue stream (reserve_begun (length named.message.payload) named.under_way) (without_rest named.place named.under_way.sent named.message old)
 
   d : DropsFront named.place old (without_rest named.place named.under_way.sent named.message old)
   d = drops_front named.place named.under_way.sent named.message old named.within
@@ -130,8 +130,8 @@ module _ (queued : List Message) (history : History) (old : SendQueueState) (str
   left_whole : HoldsWhole (None ∷ history.log) left
   unfolding left
   left_whole =
-      let idle : (released_queue stream (without_rest named.place named.under_way.sent named.message old)).held ≡ None =
-      released_same stream old (without_rest named.place named.under_way.sent named.message old) refl ∙ released_ours stream old (inr held_so) in
+      let idle : (released_queue stream (reserve_begun (length named.message.payload) named.under_way) (without_rest named.place named.under_way.sent named.message old)).held ≡ None =
+      released_same stream (reserve_begun (length named.message.payload) named.under_way) old (without_rest named.place named.under_way.sent named.message old) refl ∙ released_ours stream (reserve_begun (length named.message.payload) named.under_way) old (inr held_so) in
       record {
         each = λ id waiting is front kept. absurd (others id waiting is front kept);
         held = λ id is. absurd (let clash : None ≡ held_on id = sym idle ∙ is in cc);
@@ -141,7 +141,7 @@ module _ (queued : List Message) (history : History) (old : SendQueueState) (str
       there : stream_named stream streams ≡ stream_at streams named.place
       there = subst (λ (k : ℕ). stream_named k streams ≡ stream_at streams named.place) named.is (changes_named named.place old.streams streams d.one named.within holds.distinct)
 
-      others : (id : ℕ) (waiting : Waiting) → is_some (stream_named id streams).under_way ≡ true → front_of (stream_named id streams).messages ≡ Some waiting → is_kept_whole waiting old ≡ true → ⊥
+      others : (id : ℕ) (waiting : Waiting) → is_some (stream_named id streams).under_way ≡ true → front_of (stream_named id streams).messages ≡ Some waiting → is_always_whole waiting old ≡ true → ⊥
       others id waiting is front kept =
           elim (decide id stream) [
             | inl same ↦ (let clash : false ≡ true = ap is_some (sym d.progress_is) ∙ ap (λ (s : Stream). is_some s.under_way) (sym there) ∙ ap (λ (k : ℕ). is_some (stream_named k streams).under_way) (sym same) ∙ is in cc)
@@ -151,27 +151,50 @@ module _ (queued : List Message) (history : History) (old : SendQueueState) (str
                 (numbers.whole.each id waiting (ap (λ (s : Stream). is_some s.under_way) (sym same) ∙ is) (ap (λ (s : Stream). front_of s.messages) (sym same) ∙ front) kept))))
           ]
 
-  left_numbered : NumbersMessages (with_slot None history) left
+  -- the newest piece of its stream is of the message that is dropped
+  newest_dropped : (f : Piece) → newest_on stream history.log ≡ Some f → f.place ≡ message_id
+  newest_dropped f newest =
+      elim going.came [
+        | inl none ↦ absurd (let clash : None ≡ Some f = sym none ∙ ap (λ (k : ℕ). newest_on k history.log) of_stream ∙ newest in cc)
+        | inr c ↦
+            (let both : Some c.piece ≡ Some f = sym c.at ∙ ap (λ (k : ℕ). newest_on k history.log) of_stream ∙ newest in
+            let same : c.piece ≡ f = cc in
+            ap (λ (x : Piece). x.place) (sym same) ∙ c.is ∙ of_message)
+      ]
+
+  left_rests : ((n : ℕ) (f : Piece) → at_place n history.log ≡ Some (Some f) → f.place ≡ message_id → f.message.is_limited ≡ true) → RestAtEnds (None ∷ history.log) streams
+  left_rests limited id none f newest =
+      elim (decide id stream) [
+        | inl same ↦
+            (let here : newest_on stream history.log ≡ Some f = ap (λ (k : ℕ). newest_on k history.log) (sym same) ∙ newest in
+            let found = newest_found stream history.log f here in
+            inr (limited found.number f found.at (newest_dropped f here)))
+        | inr ne ↦ numbers.rests id (ap (λ (s : Stream). s.under_way) (sym (d.one.named id (λ on. ne (on ∙ named.is)))) ∙ none) f newest
+      ]
+
+  left_numbered : ((n : ℕ) (f : Piece) → at_place n history.log ≡ Some (Some f) → f.place ≡ message_id → f.message.is_limited ≡ true) → NumbersMessages (with_slot None history) left
   unfolding left
-  left_numbered = numbered_ended history old (released_queue stream (without_rest named.place named.under_way.sent named.message old)) refl (numbers_rest named.place named.under_way.sent named.message old) left_whole numbers
+  left_numbered limited =
+      numbered_ended history old (released_queue stream (reserve_begun (length named.message.payload) named.under_way) (without_rest named.place named.under_way.sent named.message old)) refl (numbers_rest named.place named.under_way.sent named.message old) left_whole (left_rests limited) numbers
 
   -- what is under way then was under way
   pub left_ways : (id : ℕ) → is_some (stream_named id streams).under_way ≡ true → is_some (stream_named id old.streams).under_way ≡ true
   left_ways id is = ap is_some (sym ((numbers_rest named.place named.under_way.sent named.message old).fronts id is).under_way) ∙ is
 
 pub discards_numbered : {P : Type 0} (queued : List Message) (history : History) (old new : SendQueueState) (stream message_id : ℕ) (before after : List (Event P)) → HoldsQueued queued history.log old.streams → NumbersMessages history old
-    → (discards : Discards old stream message_id before new after) → is_kept_whole discards.named.message old ≡ true → NumbersMessages (with_slot None history) new
+    → (discards : Discards old stream message_id before new after) → is_always_whole discards.named.message old ≡ true
+    → ((n : ℕ) (f : Piece) → at_place n history.log ≡ Some (Some f) → f.place ≡ message_id → f.message.is_limited ≡ true) → NumbersMessages (with_slot None history) new
 unfolding left
-discards_numbered queued history old new stream message_id before after holds numbers discards whole =
-    subst (λ (b : SendQueueState). NumbersMessages (with_slot None history) b) (sym discards.left) (left_numbered queued history old stream message_id discards.named holds numbers whole)
+discards_numbered queued history old new stream message_id before after holds numbers discards whole limited =
+    subst (λ (b : SendQueueState). NumbersMessages (with_slot None history) b) (sym discards.left) (left_numbered queued history old stream message_id discards.named holds numbers whole limited)
 
 pub discards_hold : {P : Type 0} (queued : List Message) (history : History) (old new : SendQueueState) (stream message_id : ℕ) (before after : List (Event P)) → HoldsQueued queued history.log old.streams → NumbersMessages history old
-    → (discards : Discards old stream message_id before new after) → is_kept_whole discards.named.message old ≡ true → HoldsQueued queued (None ∷ history.log) new.streams
+    → (discards : Discards old stream message_id before new after) → is_always_whole discards.named.message old ≡ true → HoldsQueued queued (None ∷ history.log) new.streams
 discards_hold queued history old new stream message_id before after holds numbers discards whole =
     subst (λ (b : SendQueueState). HoldsQueued queued (None ∷ history.log) b.streams) (sym discards.left) (left_hold queued history old stream message_id discards.named holds numbers whole)
 
 pub discards_ways : {P : Type 0} (queued : List Message) (history : History) (old new : SendQueueState) (stream message_id : ℕ) (before after : List (Event P)) → HoldsQueued queued history.log old.streams → NumbersMessages history old
-    → (discards : Discards old stream message_id before new after) → is_kept_whole discards.named.message old ≡ true
+    → (discards : Discards old stream message_id before new after) → is_always_whole discards.named.message old ≡ true
     → (id : ℕ) → is_some (stream_named id new.streams).under_way ≡ true → is_some (stream_named id old.streams).under_way ≡ true
 discards_ways queued history old new stream message_id before after holds numbers discards whole id is =
     left_ways queued history old stream message_id discards.named holds numbers whole id (ap (λ (b : SendQueueState). is_some (stream_named id b.streams).under_way) (sym discards.left) ∙ is)

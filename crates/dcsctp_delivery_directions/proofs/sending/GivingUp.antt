@@ -11,11 +11,11 @@ use Rattle.dcsctp_spec.specs.queues.Items.{Item}
 use Rattle.dcsctp_spec.specs.queues.NextItem.{is_abandonment_due}
 use Rattle.dcsctp_spec.specs.queues.Outstanding.{OutstandingState}
 use Rattle.dcsctp_spec.specs.queues.SendQueue.{SendQueueState, queue_interleaves}
-use Rattle.dcsctp_spec.specs.queues.Sending.{Fragment, Discards, DiscardsNamed, IsMessageUnderWay, may_be_abandoned, is_kept_whole}
+use Rattle.dcsctp_spec.specs.queues.Sending.{Fragment, Discards, DiscardsNamed, IsMessageUnderWay, may_be_abandoned}
 use Rattle.dcsctp_delivery_directions.specs.sending.Log.{Message, Piece, Slot, History, log_extended, with_slot}
 use Rattle.dcsctp_delivery_directions.specs.sending.Places.{at_place}
 use Rattle.dcsctp_delivery_directions.specs.sending.Pieces.{HoldsQueued}
-use Rattle.dcsctp_delivery_directions.specs.sending.Numbers.{NumbersMessages}
+use Rattle.dcsctp_delivery_directions.specs.sending.Numbers.{NumbersMessages, is_always_whole}
 use Rattle.dcsctp_delivery_directions.specs.sending.Stages.{IsNamedFragment, IsOfLimited, Bears, Pends, AreMarks, Stands, Stays}
 use Rattle.dcsctp_delivery_directions.proofs.sending.Marks.{pends_later, marks_none, named_end, end_whole}
 use Rattle.dcsctp_delivery_directions.proofs.sending.Discarding.{newest_named, discards_numbered, discards_hold, discards_ways}
@@ -50,7 +50,7 @@ drops_rest_ends queued history first acknowledged own now last old new stands na
     subst (λ (s : Stage). Ends queued history first acknowledged s) (sym drops.is) (go drops.drops.is_dropped drops.drops.drops drops.drops.ends)
   where
     -- the message that is dropped may be abandoned, so it is kept whole
-    kept_whole : (named' : IsMessageUnderWay old.waiting last.fragment.stream last.fragment.message_id) → is_kept_whole named'.message old.waiting ≡ true
+    kept_whole : (named' : IsMessageUnderWay old.waiting last.fragment.stream last.fragment.message_id) → is_always_whole named'.message old.waiting ≡ true
     kept_whole named' =
         let streams = old.waiting.streams in
         let was = front_queued queued (stream_at streams named'.place).id (stream_at streams named'.place).messages named'.message (stands.queue_holds.wait named'.place) named'.front in
@@ -59,14 +59,17 @@ drops_rest_ends queued history first acknowledged own now last old new stands na
         let may : may_be_abandoned named'.message ≡ true = was.is.limited (ap (λ (m : Message). m.is_limited) same ∙ limited.limited) in
         ap (λ (b : Bool). b || not (queue_interleaves old.waiting)) may
 
+    all_limited : (n : ℕ) (f : Piece) → at_place n history.log ≡ Some (Some f) → f.place ≡ last.fragment.message_id → f.message.is_limited ≡ true
+    all_limited n f at place =
+        let both : Some f.message ≡ Some limited.piece.message = sym (stands.cut.pieces n f at).at ∙ ap (λ (k : ℕ). at_place k queued) (place ∙ limited.of) ∙ (stands.cut.pieces limited.number limited.piece limited.at).at in
+        let same : f.message ≡ limited.piece.message = cc in
+        ap (λ (m : Message). m.is_limited) same ∙ limited.limited
+
     -- the newest piece is of that message
     dropped_limited : (discards : Discards old.waiting last.fragment.stream last.fragment.message_id old.told new.waiting new.told)
         → (n : ℕ) (f : Piece) → at_place n history.log ≡ Some (Some f) → n + 1 ≡ length history.log → f.message.is_limited ≡ true
     dropped_limited discards n f at is_newest =
-        let place = newest_named queued history old.waiting last.fragment.stream last.fragment.message_id discards.named stands.queue_holds stands.numbers (kept_whole discards.named) n f at is_newest in
-        let both : Some f.message ≡ Some limited.piece.message = sym (stands.cut.pieces n f at).at ∙ ap (λ (k : ℕ). at_place k queued) (place ∙ limited.of) ∙ (stands.cut.pieces limited.number limited.piece limited.at).at in
-        let same : f.message ≡ limited.piece.message = cc in
-        ap (λ (m : Message). m.is_limited) same ∙ limited.limited
+        all_limited n f at (newest_named queued history old.waiting last.fragment.stream last.fragment.message_id discards.named stands.queue_holds stands.numbers (kept_whole discards.named) n f at is_newest)
 
     go : (dropped : Bool) → DiscardsNamed old.waiting last.fragment.stream last.fragment.message_id old.told dropped new.waiting new.told → EndsDropped now old.queue.reset_begun last old.queue.outstanding drops.outstanding dropped
         → Ends queued history first acknowledged (record old { queue = record old.queue { outstanding = drops.outstanding }; waiting = new.waiting; told = new.told })
@@ -93,7 +96,7 @@ drops_rest_ends queued history first acknowledged own now last old new stands na
                 (λ begun none. (let gone : at_place named.number [] ≡ Some (Some named.piece) = subst (λ (l : List Slot). at_place named.number l ≡ Some (Some named.piece)) (stands.pends.none begun none) named.at in absurd (cc)));
             marks = marks_none history first old.waiting.streams new.waiting.streams
                 (discards_ways queued history old.waiting new.waiting last.fragment.stream last.fragment.message_id old.told new.told stands.queue_holds stands.numbers discards whole) stands.marks;
-            numbers = discards_numbered queued history old.waiting new.waiting last.fragment.stream last.fragment.message_id old.told new.told stands.queue_holds stands.numbers discards whole;
+            numbers = discards_numbered queued history old.waiting new.waiting last.fragment.stream last.fragment.message_id old.told new.told stands.queue_holds stands.numbers discards whole all_limited;
             kind = ap (λ (o : OutstandingState). o.is_interleaved) ends.grows ∙ stands.kind ∙ sym (ap (λ (w : SendQueueState). w.is_interleaved) discards.left);
           };
         }

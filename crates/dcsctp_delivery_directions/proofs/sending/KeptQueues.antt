@@ -33,7 +33,7 @@ begins_idle false streams held idle = ssns_anew streams held
 
 -- so they are numbered
 pub numbered_new : (queue : SendQueueState) (begins : Begins queue.is_interleaved queue.streams queue.held) → IsUnderWayKept queue.streams → HoldsWhole [] queue → NumbersMessages (new_history begins.floors) queue
-numbered_new queue begins kept whole = record { kinds = λ n f at. absurd (cc); counts = begins.counts; kept = kept; whole = whole }
+numbered_new queue begins kept whole = record { kinds = λ n f at. absurd (cc); counts = begins.counts; kept = kept; whole = whole; rests = λ id none f at. absurd (cc) }
 
 pub whole_new : (log : List Slot) (queue : SendQueueState) → HoldsWhole log queue → HoldsWhole [] queue
 whole_new log queue whole = record { each = whole.each; held = whole.held; newest = λ id is. tt }

@@ -9,11 +9,11 @@ use Rattle.dcsctp_spec.specs.queues.AtOnce.{empty_stage, SendsAtOnce}
 use Rattle.dcsctp_spec.specs.queues.Filling.{Stage, SendsMarked, StageSteps, none, more}
 use Rattle.dcsctp_spec.specs.queues.Retransmission.{RetransmissionState, counted_again}
 use Rattle.dcsctp_spec.specs.queues.SendQueue.{SendQueueState}
-use Rattle.dcsctp_spec.specs.queues.Sending.{Fragment, queue_after_producing, TakesFragment, Discards, is_kept_whole}
+use Rattle.dcsctp_spec.specs.queues.Sending.{Fragment, queue_after_producing, TakesFragment, Discards}
 use Rattle.dcsctp_delivery_directions.specs.sending.Places.{HasEntry, at_place}
 use Rattle.dcsctp_delivery_directions.specs.sending.Log.{Message, Piece, Slot, newest_on, HasBefore, IsLogOfPieces, Mark, History, Resets, with_slot}
 use Rattle.dcsctp_delivery_directions.specs.sending.Pieces.{Going, IsGoing, HoldsQueued, HandsOutPiece}
-use Rattle.dcsctp_delivery_directions.specs.sending.Numbers.{stream_named, NumbersMessages}
+use Rattle.dcsctp_delivery_directions.specs.sending.Numbers.{stream_named, NumbersMessages, is_always_whole}
 use Rattle.dcsctp_delivery_directions.specs.sending.Stages.{IsNamedFragment, Pends, IsSentFrom, IsMark, AreMarks}
 use Rattle.dcsctp_delivery_directions.proofs.sending.Places.{decide, at_below, at_cases, at_new, at_stays}
 use Rattle.dcsctp_delivery_directions.proofs.sending.Newest.{newest_found, newest_none}
@@ -90,7 +90,7 @@ after_marks queued history first streams id place c mark is goes newest of m f a
 
 -- No reset of its stream lies between a message under way and its end: the newest piece comes after all these resets.
 pub end_whole : {P : Type 0} (queued : List Message) (history : History) (first own : ℕ) (old new : SendQueueState) (part : Fragment) (before after : List (Event P)) → (holds : HoldsQueued queued history.log old.streams)
-    → IsLogOfPieces queued history.log → AreMarks history first old.streams → (numbers : NumbersMessages history old) → (discards : Discards old part.stream part.message_id before new after) → is_kept_whole discards.named.message old ≡ true
+    → IsLogOfPieces queued history.log → AreMarks history first old.streams → (numbers : NumbersMessages history old) → (discards : Discards old part.stream part.message_id before new after) → is_always_whole discards.named.message old ≡ true
     → (n : IsNamedFragment history own part)
     → (mark : Mark) → HasEntry mark history.marks → Resets mark n.piece.message.stream → n.number < mark.bound → length history.log < mark.bound
 end_whole queued history first own old new part before after holds cut marks numbers discards whole n mark has names less =

@@ -1,8 +1,8 @@
 -- The newest piece of a stream.
-use Rattle.std.proofs.Common.{◌≡◌, ℕ, ◌<◌, ◌≤◌, ◌+◌, List, [], ◌∷◌, length, refl, sym, ◌∙◌, ap, arith, inl, inr}
+use Rattle.std.proofs.Common.{◌≡◌, ℕ, ◌<◌, ◌≤◌, ◌+◌, List, [], ◌∷◌, length, refl, sym, ◌∙◌, ap, arith, inl, inr, Option}
 use Rattle.std.specs.Prelude.{None, Some}
 use Rattle.std.proofs.lemmas.Bool.{eq-eqb}
-use Rattle.std.proofs.lemmas.Bool.Decides.{eqb_tells}
+use Rattle.std.proofs.lemmas.Bool.Decides.{eqb_tells, leb_tells}
 use Rattle.dcsctp_delivery_directions.specs.sending.Places.{at_place}
 use Rattle.dcsctp_delivery_directions.specs.sending.Log.{Piece, Slot, newest, newest_on, IsNewestOn}
 use Rattle.dcsctp_delivery_directions.proofs.sending.Places.{at_new, at_cases, at_below, at_stays}
@@ -82,3 +82,21 @@ newest_lies (slot ∷ log) piece n is last =
 pub is_newest : (n : ℕ) (f : Piece) (log : List Slot) → n + 1 ≡ length log → at_place n log ≡ Some (Some f) → newest log ≡ Some (Some f)
 is_newest n f [] is at = absurd (cc)
 is_newest n f (slot ∷ log) is at = elim (at_cases n slot (Some f) log at) [ inl e ↦ ap Some e.1 | inr old ↦ absurd (let low = at_below n (Some f) log old in omega (arith, low, is)) ]
+
+-- a piece after which none of its stream comes is the newest of that
+pub newest_from : (id : ℕ) (log : List Slot) (m : ℕ) (f : Piece) → at_place m log ≡ Some (Some f) → f.message.stream ≡ id
+    → ((k : ℕ) (h : Piece) → m < k → at_place k log ≡ Some (Some h) → h.message.stream ≡ id → ⊥) → newest_on id log ≡ Some f
+newest_from id log m f at on none = go (newest_on id log) refl
+  where
+    go : (o : Option Piece) → newest_on id log ≡ o → newest_on id log ≡ Some f
+    go None is = absurd (newest_none id log is m f at on)
+    go (Some g) is =
+        let found = newest_found id log g is in
+        let up : m ≤ found.number = found.last m f at on in
+        elim (leb_tells found.number m) [
+          | inl low ↦
+              (let here : m ≡ found.number = omega (arith, up, low.1) in
+              let both : Some (Some f) ≡ Some (Some g) = sym at ∙ ap (λ (k : ℕ). at_place k log) here ∙ found.at in
+              is ∙ (cc))
+          | inr high ↦ absurd (none found.number g high.1 found.at found.on)
+        ]

@@ -21,7 +21,7 @@ marked_twice (Some begun) ids bound newer older history = ap (λ (l : List Slot)
 counts_marked : (begun : BegunReset) (ids : List ℕ) (bound : ℕ) (history : History) (b : Bool) (streams : List Stream) (held : Option StreamId) → CountsByKind b history streams held → CountsByKind b (with_mark (Some begun) ids bound history) streams held
 counts_marked begun ids bound history false streams held c = record { turns = λ id start. c.turns id (record { floor = start.floor; none = λ mark has names. start.none mark (inr has) names }); closes = c.closes; rests = c.rests }
 counts_marked begun ids bound history true streams held c =
-    record { counts = c.counts; few = c.few; next = c.next; below = c.below; apart = c.apart; going = λ id. going id (stream_named id streams).under_way (c.going id) }
+    record { counts = c.counts; few = c.few; next = c.next; below = c.below; apart = c.apart; going = λ id. going id (stream_named id streams).under_way (c.going id); dense = c.dense }
   where
     going : (id : ℕ) (v : Option UnderWay) → LastIs history streams c.counts id v → LastIs (with_mark (Some begun) ids bound history) streams c.counts id v
     going id None last = tt
@@ -29,7 +29,7 @@ counts_marked begun ids bound history true streams held c =
 
 numbers_marked : (begun : BegunReset) (ids : List ℕ) (bound : ℕ) (history : History) (queue : SendQueueState) → NumbersMessages history queue → NumbersMessages (with_mark (Some begun) ids bound history) queue
 numbers_marked begun ids bound history queue numbers =
-    record { kinds = numbers.kinds; counts = counts_marked begun ids bound history queue.is_interleaved queue.streams queue.held numbers.counts; kept = numbers.kept; whole = numbers.whole }
+    record { kinds = numbers.kinds; counts = counts_marked begun ids bound history queue.is_interleaved queue.streams queue.held numbers.counts; kept = numbers.kept; whole = numbers.whole; rests = numbers.rests }
 
 -- what holds of the stage before the reset is recorded, and what holds once it is
 pub stands_marked : (begun : Option BegunReset) (ids : List ℕ) (bound : ℕ) (queued : List Message) (history : History) (first acknowledged : ℕ) (stage : Stage) → HoldsQueued queued history.log stage.waiting.streams → IsLogOfPieces queued history.log

@@ -6,14 +6,15 @@ use Rattle.dcsctp_spec.specs.types.declared.sending.UnderWay.{UnderWay}
 use Rattle.dcsctp_spec.specs.types.queues.SendStreams.{Waiting, Stream}
 use Rattle.dcsctp_spec.specs.queues.SendQueue.{SendQueueState}
 use Rattle.dcsctp_spec.specs.endpoint.Event.{Event}
-use Rattle.dcsctp_spec.specs.queues.Sending.{Drops, may_be_abandoned, is_kept_whole}
+use Rattle.dcsctp_spec.specs.queues.Sending.{Drops, may_be_abandoned}
 use Rattle.dcsctp_delivery_directions.specs.sending.Log.{Slot, History, with_slot}
 use Rattle.dcsctp_delivery_directions.specs.sending.Turns.{IsSsnOfTurn}
-use Rattle.dcsctp_delivery_directions.specs.sending.Numbers.{stream_named, IsUnderWayKept, IsLastBegun, LastIs, CountsMessages, CountsTurns, CountsByKind, HoldsWhole, NumbersMessages}
+use Rattle.dcsctp_delivery_directions.specs.sending.Numbers.{stream_named, IsUnderWayKept, IsLastBegun, LastIs, CountsMessages, CountsTurns, CountsByKind, HoldsWhole, NumbersMessages, is_always_whole, RestAtEnds}
 use Rattle.dcsctp_delivery_directions.proofs.sending.Places.{at_below}
 use Rattle.dcsctp_delivery_directions.proofs.sending.Turns.{turn_old}
 use Rattle.dcsctp_delivery_directions.proofs.sending.Stages.{with_none}
 use Rattle.dcsctp_delivery_directions.proofs.sending.Numbers.{KeepsFront, NumbersStay, NumbersLeft, stay_left, mid_stays, IsAsBefore, as_dropped, numbers_dropped}
+use Rattle.dcsctp_delivery_directions.proofs.sending.Counted.{begun_more}
 
 pub counts_left : (history : History) (old new : List Stream) → NumbersLeft old new → CountsMessages history old → CountsMessages history new
 counts_left history old new left counts =
@@ -24,6 +25,7 @@ counts_left history old new left counts =
       below = counts.below;
       apart = counts.apart;
       going = λ id. go id (stream_named id new).under_way refl;
+      dense = counts.dense;
     }
   where
     go : (id : ℕ) (u : Option UnderWay) → (stream_named id new).under_way ≡ u → LastIs history new counts.counts id u
@@ -64,8 +66,11 @@ kept_left old new left kept id some =
 pub kept_stays : (old new : List Stream) → NumbersStay old new → IsUnderWayKept old → IsUnderWayKept new
 kept_stays old new stay kept = kept_left old new (stay_left old new stay) kept
 
+pub rests_stay : (log : List Slot) (old new : List Stream) → ((id : ℕ) → (stream_named id new).under_way ≡ (stream_named id old).under_way) → RestAtEnds log old → RestAtEnds log new
+rests_stay log old new same rests id none = rests id (sym (same id) ∙ none)
+
 -- which messages are kept whole depends on how the queue numbers
-pub whole_as : (w : Waiting) (old new : SendQueueState) → new.is_interleaved ≡ old.is_interleaved → new.takes_turns ≡ old.takes_turns → is_kept_whole w new ≡ is_kept_whole w old
+pub whole_as : (w : Waiting) (old new : SendQueueState) → new.is_interleaved ≡ old.is_interleaved → new.takes_turns ≡ old.takes_turns → is_always_whole w new ≡ is_always_whole w old
 whole_as w old new kind turns =
     ap (λ (b : Bool). may_be_abandoned w || not (b && new.takes_turns)) kind ∙ ap (λ (b : Bool). may_be_abandoned w || not (old.is_interleaved && b)) turns
 
@@ -90,6 +95,7 @@ numbered_as history old new alike stay numbers =
           (subst (λ (h : Option StreamId). CountsByKind old.is_interleaved history new.streams h) (sym alike.held) (where_stay old.is_interleaved history old.streams new.streams old.held stay numbers.counts));
       kept = kept_stays old.streams new.streams stay numbers.kept;
       whole = whole_stays history.log old new alike stay.fronts numbers.whole;
+      rests = rests_stay history.log old.streams new.streams (λ id. (stay.fronts id).under_way) numbers.rests;
     }
 
 pub numbered_stay : (history : History) (old new : SendQueueState) → new.is_interleaved ≡ old.is_interleaved → new.takes_turns ≡ old.takes_turns → new.held ≡ old.held → NumbersStay old.streams new.streams → NumbersMessages history old
@@ -110,6 +116,7 @@ counts_ended history streams counts =
       below = λ n f at. counts.below n f (with_none history.log n f at);
       apart = λ m n f g at at'. counts.apart m n f g (with_none history.log m f at) (with_none history.log n g at');
       going = λ id. go id (stream_named id streams).under_way (counts.going id);
+      dense = λ id anew k less. begun_more None history.log id (history.floors id false + k) (counts.dense id anew k less);
     }
   where
     go : (id : ℕ) (u : Option UnderWay) → LastIs history streams counts.counts id u → LastIs (with_slot None history) streams counts.counts id u
@@ -135,9 +142,9 @@ where_ended false history held held' streams counts =
     }
 where_ended true history held held' streams counts = counts_ended history streams counts
 
-pub numbered_ended : (history : History) (old new : SendQueueState) → new.is_interleaved ≡ old.is_interleaved → NumbersLeft old.streams new.streams → HoldsWhole (None ∷ history.log) new → NumbersMessages history old
+pub numbered_ended : (history : History) (old new : SendQueueState) → new.is_interleaved ≡ old.is_interleaved → NumbersLeft old.streams new.streams → HoldsWhole (None ∷ history.log) new → RestAtEnds (None ∷ history.log) new.streams → NumbersMessages history old
     → NumbersMessages (with_slot None history) new
-numbered_ended history old new kind left whole numbers =
+numbered_ended history old new kind left whole rests numbers =
     record {
       kinds = λ n f at. numbers.kinds n f (with_none history.log n f at) ∙ sym kind;
       counts = subst (λ (b : Bool). CountsByKind b (with_slot None history) new.streams new.held) (sym kind)
@@ -145,4 +152,5 @@ numbered_ended history old new kind left whole numbers =
           (where_ended old.is_interleaved history old.held new.held old.streams numbers.counts));
       kept = kept_left old.streams new.streams left numbers.kept;
       whole = whole;
+      rests = rests;
     }

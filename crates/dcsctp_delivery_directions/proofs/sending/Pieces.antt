@@ -18,6 +18,7 @@ use Rattle.dcsctp_delivery_directions.proofs.sending.ProducedHeld.{held_on, IsFr
 use Rattle.dcsctp_delivery_directions.proofs.sending.Pauses.{turn_open}
 use Rattle.dcsctp_delivery_directions.proofs.sending.Begun.{begins}
 use Rattle.dcsctp_delivery_directions.proofs.sending.Continued.{goes_on}
+use Rattle.dcsctp_spec_lemmas.proofs.ChoosingLemmas.{chosen_turn}
 
 pub progress_none : (message : Waiting) (s : Stream) → s.under_way ≡ None → next_progress message s ≡ begun_under_way message s
 progress_none message s is =
@@ -73,12 +74,12 @@ hands_out queued history now max old next told_before told_after part room holds
         HandsOutPiece queued history (fragment taken.under_way taken.message (size_produced max taken.message taken.under_way))
         (queue_after_producing taken.place max taken.message taken.under_way taken.queue)
 
-    go : (held : Option StreamId) → old.held ≡ held → Chooses now old held taken.queue taken.place taken.message → Handed
+    go : (held : Option StreamId) → old.held ≡ held → Chooses now max old held taken.queue taken.place → Handed
     go None is chosen =
         let free : taken.queue.held ≡ None = (as_dropped now old taken.drops.events taken.queue taken.drops.drops).held ∙ is in
         hands_next queued history max taken.place taken.queue taken.message taken.under_way room (drops_hold queued history.log now old taken.drops.events taken.queue taken.drops.drops holds)
         (numbered_dropped history now old taken.drops.events taken.queue taken.drops.drops numbers) taken.front taken.come (inl free)
-        (λ none idle. turn_open (stream_at taken.queue.streams taken.place) chosen.0.turn chosen.0.is idle)
+        (λ none idle. (let turn = chosen_turn now max taken.queue taken.place taken.message chosen taken.front in turn_open (stream_at taken.queue.streams taken.place) turn.0 turn.1 idle))
     go (Some id) is chosen =
         let held : taken.queue.held ≡ held_on (stream_at taken.queue.streams taken.place).id = ap (λ (q : SendQueueState). q.held) chosen.0 ∙ is ∙ ap held_on (sym chosen.1) in
         hands_next queued history max taken.place taken.queue taken.message taken.under_way room (subst (λ (q : SendQueueState). HoldsQueued queued history.log q.streams) (sym chosen.0) holds)

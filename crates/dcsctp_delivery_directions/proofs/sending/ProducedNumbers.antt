@@ -104,7 +104,7 @@ module _ (queued : List Message) (history : History) (max : ℕ) (queue : SendQu
     pub begun_with : t.under_way.sent ≡ 0 → queue.is_interleaved ≡ true → (c : CountsMessages history queue.streams) → piece.mid ≡ history.floors id kind + c.counts id kind → CountsMessages (with_slot (Some piece) history) new.streams
     begun_with sent interleaved c number_is =
         let mids = mids_begun sent interleaved in
-        counts_begun history queue.streams new.streams id kind piece c (stream_is queued max queue piece t) kind_is number_is
+        counts_begun history queue.streams new.streams id kind piece c (t.start ∙ sent) (stream_is queued max queue piece t) kind_is number_is
         (ap (λ (k : ℕ). k % 2 ^ 32)
         (ap (next_mid kind) named_new ∙ mid_stays kind (stream_counted true kind (stream_at queue.streams t.place)) (stream_at new.streams t.place) mids ∙ mid_counted kind (stream_at queue.streams t.place)
         ∙ ap (λ (s : Stream). (next_mid kind s + 1) % 2 ^ 32) (sym named_old))

@@ -1,16 +1,16 @@
 -- The SSNs once a fragment was handed out.
 use Rattle.std.proofs.Common.{◌≡◌, ◌≢◌, ℕ, Bool, true, false, ◌<◌, ◌≤◌, ◌+◌, ◌%◌, ◌^◌, List, ◌∷◌, length, drop, refl, sym, ◌∙◌, ap, arith, subst, inl, inr}
-use Rattle.std.specs.Prelude.{◌⊎◌, Option, None, Some, ◌||◌, ◌&&◌, not, if◌then◌else◌}
+use Rattle.std.specs.Prelude.{◌⊎◌, Option, None, Some, ◌||◌, ◌&&◌, not, if◌then◌else◌, nat_lt}
 use Rattle.std.proofs.lemmas.Bool.{eq-eqb}
 use Rattle.dcsctp_spec.specs.types.declared.ids.StreamId.{StreamId}
 use Rattle.dcsctp_spec.specs.types.declared.sending.UnderWay.{UnderWay}
 use Rattle.dcsctp_spec.specs.types.queues.SendStreams.{Waiting, Stream, front_of, stream_counted, stream_at}
-use Rattle.dcsctp_spec.specs.queues.SendQueue.{SendQueueState}
-use Rattle.dcsctp_spec.specs.queues.Sending.{progress_after, stream_held_after, may_be_abandoned, is_kept_whole}
+use Rattle.dcsctp_spec.specs.queues.SendQueue.{SendQueueState, queue_interleaves}
+use Rattle.dcsctp_spec.specs.queues.Sending.{progress_after, stream_held_after, may_be_abandoned, is_kept_whole, shared_window}
 use Rattle.dcsctp_delivery_directions.specs.sending.Places.{at_place}
 use Rattle.dcsctp_delivery_directions.specs.sending.Log.{Message, Piece, Slot, is_end, History, with_slot}
 use Rattle.dcsctp_delivery_directions.specs.sending.Turns.{begun_on, IsSsnOfTurn}
-use Rattle.dcsctp_delivery_directions.specs.sending.Numbers.{stream_named, CountsTurns, CountsSsns}
+use Rattle.dcsctp_delivery_directions.specs.sending.Numbers.{stream_named, CountsTurns, CountsSsns, is_always_whole}
 use Rattle.dcsctp_delivery_directions.specs.sending.Pieces.{HoldsQueued}
 use Rattle.dcsctp_delivery_directions.proofs.sending.Places.{decide, at_below, at_cases}
 use Rattle.dcsctp_delivery_directions.proofs.sending.Newest.{is_newest}
@@ -31,7 +31,7 @@ ssn_counted true s = refl
 ssn_counted false s = refl
 
 -- Without interleaving each message is kept whole.
-pub plain_whole : (message : Waiting) (queue : SendQueueState) → queue.is_interleaved ≡ false → is_kept_whole message queue ≡ true
+pub plain_whole : (message : Waiting) (queue : SendQueueState) → queue.is_interleaved ≡ false → is_always_whole message queue ≡ true
 plain_whole message queue plain =
     subst (λ (b : Bool). (may_be_abandoned message || not (b && queue.takes_turns)) ≡ true) (sym plain) (either (may_be_abandoned message))
   where
@@ -39,8 +39,16 @@ plain_whole message queue plain =
     either true = refl
     either false = refl
 
-pub held_whole : (id : StreamId) (message : Waiting) (queue : SendQueueState) → is_kept_whole message queue ≡ true → stream_held_after id message queue ≡ Some id
-held_whole id message queue whole = ap (λ (b : Bool). if b then Some id else None) whole
+kept_if_always : (message : Waiting) (queue : SendQueueState) → is_always_whole message queue ≡ true → is_kept_whole message queue ≡ true
+kept_if_always message queue whole = go (may_be_abandoned message) (not (queue_interleaves queue)) (nat_lt (shared_window queue) queue.reserved) whole
+  where
+    go : (a b c : Bool) → (a || b) ≡ true → (a || b || c) ≡ true
+    go true b c is = refl
+    go false true c is = refl
+    go false false c is = absurd (cc)
+
+pub held_whole : (id : StreamId) (message : Waiting) (queue : SendQueueState) → is_always_whole message queue ≡ true → stream_held_after id message queue ≡ Some id
+held_whole id message queue whole = ap (λ (b : Bool). if b then Some id else None) (kept_if_always message queue whole)
 
 module _ (queued : List Message) (history : History) (max : ℕ) (queue : SendQueueState) (piece : Piece) (t : TakesPiece queued max queue piece) (holds : HoldsQueued queued history.log queue.streams)
     (plain : queue.is_interleaved ≡ false) where

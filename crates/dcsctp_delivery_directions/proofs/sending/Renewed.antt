@@ -70,10 +70,10 @@ module _ (history : History) (number : ℕ) (renewed : Mark) (known : HasEntry r
   counts_renewed : (is_interleaved : Bool) (streams : List Stream) (held : Option StreamId) → CountsByKind is_interleaved history streams held → CountsByKind is_interleaved now streams held
   counts_renewed false streams held c = record { turns = λ id start. c.turns id (record { floor = start.floor; none = λ mark has names. start.none mark (inr has) names }); closes = c.closes; rests = c.rests }
   counts_renewed true streams held c =
-      record { counts = c.counts; few = c.few; next = c.next; below = c.below; apart = c.apart; going = λ id. last_renewed streams c.counts id (stream_named id streams).under_way (c.going id) }
+      record { counts = c.counts; few = c.few; next = c.next; below = c.below; apart = c.apart; going = λ id. last_renewed streams c.counts id (stream_named id streams).under_way (c.going id); dense = c.dense }
 
   numbered_renewed : (queue : SendQueueState) → NumbersMessages history queue → NumbersMessages now queue
-  numbered_renewed queue n = record { kinds = n.kinds; counts = counts_renewed queue.is_interleaved queue.streams queue.held n.counts; kept = n.kept; whole = n.whole }
+  numbered_renewed queue n = record { kinds = n.kinds; counts = counts_renewed queue.is_interleaved queue.streams queue.held n.counts; kept = n.kept; whole = n.whole; rests = n.rests }
 
   pub below_renewed : (queued : List Message) (first acknowledged : ℕ) (below : EndpointQueues) → QueuesFollowLog queued history first acknowledged below → QueuesFollowLog queued now first acknowledged below
   below_renewed queued first acknowledged below b =

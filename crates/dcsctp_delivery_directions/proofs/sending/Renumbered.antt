@@ -4,11 +4,11 @@ use Rattle.std.specs.Prelude.{◌&&◌, ◌||◌, not, Option, None, Some, is_so
 use Rattle.dcsctp_spec.specs.types.declared.sending.UnderWay.{UnderWay}
 use Rattle.dcsctp_spec.specs.types.queues.SendStreams.{stream_counted, Waiting, Stream, front_of, unused_stream}
 use Rattle.dcsctp_spec.specs.queues.SendQueue.{message_renumbered, numbered_for, renumbered_under_way, is_other, is_front_unordered, SendQueueState}
-use Rattle.dcsctp_spec.specs.queues.Sending.{may_be_abandoned, is_kept_whole}
+use Rattle.dcsctp_spec.specs.queues.Sending.{may_be_abandoned}
 use Rattle.dcsctp_delivery_directions.specs.sending.Log.{Message, new_history}
 use Rattle.dcsctp_delivery_directions.specs.sending.Pieces.{IsGoing, Going, HoldsQueued}
 use Rattle.dcsctp_delivery_directions.specs.sending.Queueing.{QueueWaits}
-use Rattle.dcsctp_delivery_directions.specs.sending.Numbers.{stream_named, next_mid, is_handed_out, IsUnderWayKept, CountsByKind, HoldsWhole, NumbersMessages}
+use Rattle.dcsctp_delivery_directions.specs.sending.Numbers.{stream_named, next_mid, is_handed_out, IsUnderWayKept, CountsByKind, HoldsWhole, NumbersMessages, is_always_whole}
 use Rattle.dcsctp_delivery_directions.proofs.sending.StreamsNamed.{found_map, named_place}
 use Rattle.dcsctp_delivery_directions.proofs.sending.Counting.{Begins, HasLastNumber, counts_rest, ssns_anew}
 use Rattle.dcsctp_delivery_directions.proofs.sending.KeptQueues.{numbered_new, mapped_hold}
@@ -103,11 +103,11 @@ next_renumbered s u v w is is' front =
 
 -- ---- the queue
 
-pub numbered_kind : (enabled : Bool) (queue : SendQueueState) → (numbered_for enabled queue).is_interleaved ≡ enabled
-numbered_kind enabled queue = refl
+pub numbered_kind : (enabled : Bool) (window : ℕ) (queue : SendQueueState) → (numbered_for enabled window queue).is_interleaved ≡ enabled
+numbered_kind enabled window queue = refl
 
 -- where streams take no turns each message is kept whole
-whole_always : (w : Waiting) (queue : SendQueueState) → queue.takes_turns ≡ false → is_kept_whole w queue ≡ true
+whole_always : (w : Waiting) (queue : SendQueueState) → queue.takes_turns ≡ false → is_always_whole w queue ≡ true
 whole_always w queue off = ap (λ (b : Bool). may_be_abandoned w || not (queue.is_interleaved && b)) off ∙ go (may_be_abandoned w) queue.is_interleaved
   where
     go : (a b : Bool) → (a || not (b && false)) ≡ true
@@ -119,8 +119,8 @@ whole_always w queue off = ap (λ (b : Bool). may_be_abandoned w || not (queue.i
 abbrev pub MayRenumber : SendQueueState → Type 0
 MayRenumber queue = (id : ℕ) → is_some (stream_named id queue.streams).under_way ≡ true → queue.takes_turns ≡ false
 
-pub numbered_hold : (queued : List Message) (enabled : Bool) (queue : SendQueueState) → MayRenumber queue → QueueWaits queued queue → QueueWaits queued (numbered_for enabled queue)
-numbered_hold queued enabled queue may waits = go (is_other queue.is_interleaved enabled) refl
+pub numbered_hold : (queued : List Message) (enabled : Bool) (window : ℕ) (queue : SendQueueState) → MayRenumber queue → QueueWaits queued queue → QueueWaits queued (numbered_for enabled window queue)
+numbered_hold queued enabled window queue may waits = go (is_other queue.is_interleaved enabled) refl
   where
     queue_holds : HoldsQueued queued [] queue.streams
     queue_holds = waits.holds.queue_holds
@@ -129,7 +129,7 @@ numbered_hold queued enabled queue may waits = go (is_other queue.is_interleaved
     numbers = waits.holds.numbers
 
     anew : SendQueueState
-    anew = record queue { is_interleaved = enabled; streams = map (renumbered_under_way enabled) queue.streams }
+    anew = record queue { is_interleaved = enabled; window = window; streams = map (renumbered_under_way enabled) queue.streams }
 
     -- the stream of a number
     named : (id : ℕ) → stream_named id anew.streams ≡ renumbered_under_way enabled (stream_named id queue.streams)
@@ -173,7 +173,7 @@ numbered_hold queued enabled queue may waits = go (is_other queue.is_interleaved
                       ∙ next_renumbered (stream_named id queue.streams) u v g.waiting e (ap (λ (s : Stream). s.under_way) (sym (named id ∙ so)) ∙ goes) g.front;
                 }
 
-    go : (b : Bool) → is_other queue.is_interleaved enabled ≡ b → QueueWaits queued (record queue { is_interleaved = enabled; streams = if b then map (renumbered_under_way enabled) queue.streams else queue.streams })
+    go : (b : Bool) → is_other queue.is_interleaved enabled ≡ b → QueueWaits queued (record queue { is_interleaved = enabled; window = window; streams = if b then map (renumbered_under_way enabled) queue.streams else queue.streams })
     go true other =
         let begun = begins enabled refl in
         record {
@@ -200,6 +200,7 @@ numbered_hold queued enabled queue may waits = go (is_other queue.is_interleaved
                 held = numbers.whole.held;
                 newest = λ id is. tt;
               };
+              rests = λ id none f at. absurd (cc);
             };
           };
         }

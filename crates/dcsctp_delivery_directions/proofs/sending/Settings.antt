@@ -14,9 +14,9 @@ use Rattle.dcsctp_delivery_directions.specs.sending.Places.{HasEntry}
 use Rattle.dcsctp_delivery_directions.specs.sending.Log.{Message, Slot, Mark, History, Resets}
 use Rattle.dcsctp_delivery_directions.specs.sending.Turns.{begun_on}
 use Rattle.dcsctp_delivery_directions.specs.sending.Queueing.{SettingFits, floors_raised, QueueHolds}
-use Rattle.dcsctp_delivery_directions.specs.sending.Numbers.{stream_named, next_mid, is_handed_out, IsUnderWayKept, LastIs, CountsMessages, CountsTurns, CountsSsns, CountsByKind, HoldsWhole, NumbersMessages}
+use Rattle.dcsctp_delivery_directions.specs.sending.Numbers.{stream_named, next_mid, is_handed_out, IsUnderWayKept, LastIs, CountsMessages, CountsTurns, CountsSsns, CountsByKind, HoldsWhole, NumbersMessages, IsBegunUnder}
 use Rattle.dcsctp_delivery_directions.proofs.sending.Numbers.{SameMids, KeepsFront, front_kept, numbers_then, numbers_used, numbers_changed, numbers_mapped}
-use Rattle.dcsctp_delivery_directions.proofs.sending.Numbered.{numbered_stay, whole_stays}
+use Rattle.dcsctp_delivery_directions.proofs.sending.Numbered.{numbered_stay, whole_stays, rests_stay}
 use Rattle.dcsctp_delivery_directions.proofs.sending.Streams.{alike_hold}
 use Rattle.dcsctp_delivery_directions.proofs.sending.StreamsNamed.{found_mapped}
 use Rattle.dcsctp_delivery_directions.proofs.sending.NewStreams.{used_hold}
@@ -147,10 +147,16 @@ committed_counts history streams kept c =
       apart = c.apart;
       going = λ id. subst (λ (u : Option UnderWay). LastIs (floors_raised streams history) (map committed_stream streams) (λ other b. if handed other then 0 else c.counts other b) id u) (sym (committed_under_way streams id))
           (going id (stream_named id streams).under_way refl (c.going id));
+      dense = λ id anew k less. dense id (handed id) refl anew k less;
     }
   where
     handed : ℕ → Bool
     handed id = is_handed_out (stream_named id streams).pause
+
+    dense : (id : ℕ) (h : Bool) → handed id ≡ h → (if h then 2 ^ 32 * (history.floors id true + length history.log + 1) else history.floors id true) < 2 ^ 32 * ((if h then 2 ^ 32 * (history.floors id false + length history.log + 1) else history.floors id false) + 1)
+        → (k : ℕ) → k < (if h then 0 else c.counts id false) → IsBegunUnder history.log id ((if h then 2 ^ 32 * (history.floors id false + length history.log + 1) else history.floors id false) + k)
+    dense id true is anew k less = absurd (omega (arith, less))
+    dense id false is anew k less = c.dense id anew k less
 
     few : (h : Bool) (count size : ℕ) → count ≤ size + 1 → (if h then 0 else count) ≤ size + 1
     few true count size le = omega arith
@@ -209,7 +215,7 @@ committing_hold queued history queue queues =
     record {
       queue_holds = alike_hold queued history.log queue.streams (map committed_stream queue.streams) (mapped_alike committed_stream (λ s. by_id s s.pause refl) (λ s. by_messages s s.pause refl) (λ s. by_under_way s s.pause refl) queue.streams) queues.queue_holds;
       next = queues.next;
-      numbers = record { kinds = queues.numbers.kinds; counts = counted queue.is_interleaved queues.numbers.counts; kept = committed_kept queue.streams; whole = whole };
+      numbers = record { kinds = queues.numbers.kinds; counts = counted queue.is_interleaved queues.numbers.counts; kept = committed_kept queue.streams; whole = whole; rests = rests_stay history.log queue.streams (map committed_stream queue.streams) (committed_under_way queue.streams) queues.numbers.rests };
     }
   where
     whole : HoldsWhole history.log (queue_committed queue)

@@ -67,6 +67,7 @@ cut_none queued log newest_limited cut =
         | inl e ↦ newest_limited n f (with_none log n f at) e.0
         | inr old ↦ cut.shuts n f (with_none log n f at) old
       ];
+      ends = λ m n f g less at at' on starts none. cut.ends m n f g less (with_none log m f at) (with_none log n g at') on starts (λ k h above below there. none k h above below (at_stays k None (Some h) log there));
     }
 
 pub cut_more : (queued : List Message) (history : History) (part : Fragment) (new : SendQueueState) (handed : HandsOutPiece queued history part new) → IsLogOfPieces queued history.log → IsLogOfPieces queued (Some handed.piece ∷ history.log)
@@ -123,6 +124,18 @@ cut_more queued history part new handed cut =
       shuts = λ n f at at'. elim (at_cases (n + 1) (Some handed.piece) None history.log at') [
         | inl e ↦ absurd (let clash : Some handed.piece ≡ None = e.1 in cc)
         | inr old ↦ cut.shuts n f (sym (at_old n (Some handed.piece) history.log (let low = at_below (n + 1) None history.log old in omega (arith, low))) ∙ at) old
+      ];
+      ends = λ m n f g less at at' on starts none. elim (at_cases n (Some handed.piece) (Some g) history.log at') [
+        | inl e ↦
+            (let same : handed.piece ≡ g = cc in
+            let here : n ≡ length history.log = e.0 in
+            let old : at_place m history.log ≡ Some (Some f) = sym (at_old m (Some handed.piece) history.log (omega (arith, less, here))) ∙ at in
+            handed.ends m f old (ap (λ (h : Piece). h.start) same ∙ starts) (on ∙ ap (λ (h : Piece). h.message.stream) (sym same))
+            (λ k h above there on'. none k h above (let below = at_below k (Some h) history.log there in omega (arith, below, here)) (at_stays k (Some handed.piece) (Some h) history.log there) (on' ∙ ap (λ (x : Piece). x.message.stream) same)))
+        | inr old' ↦
+            (let below : n < length history.log = at_below n (Some g) history.log old' in
+            cut.ends m n f g less (sym (at_old m (Some handed.piece) history.log (omega (arith, less, below))) ∙ at) old' on starts
+            (λ k h above under there. none k h above under (at_stays k (Some handed.piece) (Some h) history.log there)))
       ];
     }
 

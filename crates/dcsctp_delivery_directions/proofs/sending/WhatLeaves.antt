@@ -7,7 +7,7 @@ use Rattle.dcsctp_spec.specs.types.declared.ids.StreamId.{StreamId}
 use Rattle.dcsctp_spec.specs.types.declared.sending.UnderWay.{UnderWay}
 use Rattle.dcsctp_spec.specs.types.queues.SendStreams.{Waiting, Stream, without_front, stream_with_progress, stream_counted, unused_stream, stream_at}
 use Rattle.dcsctp_spec.specs.queues.SendQueue.{SendQueueState}
-use Rattle.dcsctp_spec.specs.queues.Sending.{reduced_queue, fragment_counted, progress_after, stream_held_after, released_queue, after_part, after_last, without_oldest, without_rest, queue_after_producing, is_last}
+use Rattle.dcsctp_spec.specs.queues.Sending.{reduced_queue, fragment_counted, progress_after, stream_held_after, released_queue, after_part, after_last, without_oldest, without_rest, queue_after_producing, is_last, reserve_begun}
 use Rattle.dcsctp_delivery_directions.proofs.sending.Numbers.{SameMids}
 use Rattle.dcsctp_delivery_directions.proofs.sending.Fragments.{ChangesOne, changes_set, changes_twice, still_within, reduced_there, fragment_there}
 
@@ -28,7 +28,7 @@ pub data Leaves (place max : ℕ) (message : Waiting) (under_way : UnderWay) (ol
   part : max < length message.payload - under_way.sent → Produces place message under_way (stream_at old.streams place).messages (Some (progress_after max under_way)) old new
       → new.held ≡ stream_held_after under_way.stream_id message old → Leaves place max message under_way old new
   last : length message.payload - under_way.sent ≤ max → Produces place message under_way (drop 1 (stream_at old.streams place).messages) None old new
-      → new.held ≡ (released_queue under_way.stream_id.0 old).held → Leaves place max message under_way old new
+      → new.held ≡ (released_queue under_way.stream_id.0 (reserve_begun (length message.payload) under_way) old).held → Leaves place max message under_way old new
 
 produces_part : (place max : ℕ) (message : Waiting) (under_way : UnderWay) (queue : SendQueueState) → place < length queue.streams
     → Produces place message under_way (stream_at queue.streams place).messages (Some (progress_after max under_way)) queue (after_part place max message under_way queue)
@@ -76,8 +76,8 @@ produces_last place message under_way queue within =
     }
 
 -- a stream is released as before, where the same one is held
-pub released_same : (id : ℕ) (old new : SendQueueState) → new.held ≡ old.held → (released_queue id new).held ≡ (released_queue id old).held
-released_same id old new same = ap (λ (h : Option StreamId). (released_queue id (record old { held = h })).held) same
+pub released_same : (id reserve : ℕ) (old new : SendQueueState) → new.held ≡ old.held → (released_queue id reserve new).held ≡ (released_queue id reserve old).held
+released_same id reserve old new same = ap (λ (h : Option StreamId). (released_queue id reserve (record old { held = h })).held) same
 
 pub leaves : (place max : ℕ) (message : Waiting) (under_way : UnderWay) (queue : SendQueueState) → place < length queue.streams
     → Leaves place max message under_way queue (queue_after_producing place max message under_way queue)
@@ -87,7 +87,7 @@ leaves place max message under_way queue within = go (is_last max message under_
     go true e =
         let all : length message.payload - under_way.sent ≤ max = elim (leb_tells (length message.payload - under_way.sent) max) [ inl t ↦ t.1 | inr t ↦ absurd (let clash : true ≡ false = sym e ∙ t.0 in cc) ] in
         last all (produces_last place message under_way queue within)
-        (released_same under_way.stream_id.0 queue (without_oldest place (fragment_counted place (length message.payload - under_way.sent) message under_way (reduced_queue place (length message.payload - under_way.sent) queue)))
+        (released_same under_way.stream_id.0 (reserve_begun (length message.payload) under_way) queue (without_oldest place (fragment_counted place (length message.payload - under_way.sent) message under_way (reduced_queue place (length message.payload - under_way.sent) queue)))
         (fragment_there place (length message.payload - under_way.sent) message under_way queue within).held)
     go false e =
         let more : max < length message.payload - under_way.sent = elim (leb_tells (length message.payload - under_way.sent) max) [ inl t ↦ absurd (let clash : true ≡ false = sym t.0 ∙ e in cc) | inr t ↦ t.1 ] in

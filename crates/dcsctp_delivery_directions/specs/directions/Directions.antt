@@ -63,15 +63,18 @@ pub record Beginning : Type 0 where
   pub keeps : ℕ → Bool
   -- Does its user ask for a reset of the stream when so many messages were queued?
   pub asks : ℕ → ℕ → Bool
+  -- Does nothing of the stream wait whenever it does?
+  pub empties : ℕ → ℕ → Bool
 
 -- It keeps each stream so.
 abbrev pub KeepsAll : Beginning → Type 0
 KeepsAll beginning = (id : ℕ) → beginning.keeps id ≡ true
 
--- The stream may be reset when so many messages were queued.
-pub record MayReset (beginning : Beginning) (count id : ℕ) : Type 0 where
+-- The stream may be reset when so many messages were queued, and these streams wait.
+pub record MayReset (beginning : Beginning) (count : ℕ) (streams : List Stream) (id : ℕ) : Type 0 where
   pub dropped : beginning.keeps id ≡ false
   pub asked : beginning.asks id count ≡ true
+  pub empty : beginning.empties id count ≡ true → (stream_named id streams).messages ≡ []
 
 -- A reset that the receiver has performed: which streams its request named, by fields of 16 bits, where an empty list names all;
 -- and how many messages its user had read by then, or could read.
@@ -157,7 +160,7 @@ pub data DirectionStep (old : Direction) : Direction → Type 0 where
   -- dropped, and if that may be asked for now; or a reset was performed, or was not. With interleaving it is the only one that has no end, the receiver has performed
   -- it, and none fails.
   sets : (setting : Setting) → SettingFits setting → DirectionStep old (record old { queues = record old.queues { queue = set_in_queue setting old.queues.queue } })
-  prepares : (ids : List ℕ) → AllByRecursion (λ id. id < 2 ^ 16) ids → AllByRecursion (MayReset old.beginning (length old.queued)) ids
+  prepares : (ids : List ℕ) → AllByRecursion (λ id. id < 2 ^ 16) ids → AllByRecursion (MayReset old.beginning (length old.queued) old.queues.queue.streams) ids
       → DirectionStep old (record old { queues = record old.queues { queue = prepared_all ids old.queues.queue } })
   commits : (old.queues.queue.is_interleaved ≡ true → (old.asking.out ≤ 1) × (old.asking.is_performed ≡ true))
       → DirectionStep old (record old { queues = record old.queues { queue = queue_committed old.queues.queue }; asking = all_ended old.asking })

@@ -35,4 +35,4 @@ abbrev pub ReadIsWithoutGaps : Type 0
 ReadIsWithoutGaps =
     (queued : List Message) (history : History) (got : List ℕ) (base : ℕ) (places : List ℕ) (incoming : IncomingModel) (read : List MessageContent)
     → WereQueued queued places read → AreDistinct places → ((id : ℕ) → CountsFromZero history id) → ((id : ℕ) → SendsInTurn queued history id) → ((id : ℕ) → AreSentUnlimited history id 0)
-    → IncomingOrdered (uncut any_asked) (sent_messages queued history) (λ id. false) got base places incoming → AreDeliveredWithoutGaps queued read
+    → IncomingOrdered (uncut false any_asked) (sent_messages queued history) (λ id. false) got base places incoming → AreDeliveredWithoutGaps queued read

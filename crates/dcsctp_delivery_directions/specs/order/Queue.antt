@@ -1,6 +1,6 @@
 -- The order in which ordered messages of a stream were queued, and the numbers of what was sent of
 -- them (RFC 9260, section 6.6; RFC 8260, section 2.1).
-use Rattle.std.specs.Prelude.{◌≡◌, ◌<◌, ◌≤◌, ℕ, zero, suc, Bool, true, false, Some, List, [], ◌∷◌, length}
+use Rattle.std.specs.Prelude.{◌≡◌, ◌<◌, ◌≤◌, ℕ, zero, suc, Bool, true, false, Some, List, [], ◌∷◌, length, take}
 use Rattle.dcsctp_spec_lemmas.specs.spec.endpoint.Event.{Event}
 use Rattle.dcsctp_spec_lemmas.specs.spec.queues.SendQueue.{SendQueueState}
 use Rattle.dcsctp_spec_lemmas.specs.spec.queues.Sending.{Fragment, TakesFragment}
@@ -52,10 +52,11 @@ LeaveNoGapBefore asks queued id end places =
     → AreUnlimitedFrom queued id earlier end → HasEntry earlier places
 
 -- A reset of a stream that its receiver has performed: how many messages were read or ready then, of all streams, and how many
--- were queued when it was asked for.
+-- were queued when it was asked for. Is it known that nothing of the stream waited then?
 pub record Cut : Type 0 where
   pub index : ℕ
   pub place : ℕ
+  pub is_whole : Bool
 
 -- Of the messages of the stream the first ones, up to this index, were queued before this place, and none of the others.
 abbrev pub Separates : List Message → ℕ → ℕ → ℕ → List ℕ → Type 0
@@ -63,11 +64,19 @@ Separates queued id index bound [] = Unit {0}
 Separates queued id zero bound (place ∷ places) = (IsMessageOn queued id place → bound ≤ place) × Separates queued id zero bound places
 Separates queued id (suc index) bound (place ∷ places) = (IsMessageOn queued id place → place < bound) × Separates queued id index bound places
 
--- The reset separates them, and leaves no gap before it.
+-- If no ordered message of the stream has limits that was queued before the reset was asked for, each is among the first ones, up
+-- to its index, that was queued since one was asked for before.
+abbrev pub HaveAllBefore : (ℕ → Bool) → List Message → ℕ → Cut → List ℕ → Type 0
+HaveAllBefore asks queued id cut places =
+    AreUnlimitedFrom queued id 0 cut.place → (place : ℕ) → IsOrderedOn queued id place → place < cut.place → ((count : ℕ) → place < count → count < cut.place → asks count ≡ false) → HasEntry place (take cut.index places)
+
+-- The reset separates them, and leaves no gap before it. They are all, if nothing waited.
 pub record IsSeparated (asks : ℕ → Bool) (queued : List Message) (id : ℕ) (cut : Cut) (places : List ℕ) : Type 0 where
   pub within : cut.index ≤ length places
   pub separates : Separates queued id cut.index cut.place places
   pub no_gap : LeaveNoGapBefore asks queued id cut.place places
+  pub before : cut.place ≤ length queued
+  pub all : cut.is_whole ≡ true → HaveAllBefore asks queued id cut places
 
 -- Each of these resets does.
 abbrev pub AreSeparated : (ℕ → Bool) → List Message → ℕ → List Cut → List ℕ → Type 0

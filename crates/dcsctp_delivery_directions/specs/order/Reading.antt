@@ -10,14 +10,20 @@ use Rattle.dcsctp_spec_lemmas.specs.spec.queues.Runs.{PartModel}
 use Rattle.dcsctp_spec_lemmas.specs.spec.queues.IncomingStreams.{StreamModel, TakesOrdered, stream_after_skip}
 use Rattle.dcsctp_delivery_directions.specs.sending.Places.{HasEntry, at_place}
 use Rattle.dcsctp_delivery_directions.specs.sending.Log.{Message, Piece, History}
-use Rattle.dcsctp_delivery_directions.specs.sending.Numbers.{AreOfKind, IsCurrent}
+use Rattle.dcsctp_delivery_directions.specs.sending.Numbers.{AreOfKind, IsCurrent, IsBegunUnder}
 use Rattle.dcsctp_delivery_directions.specs.order.Queue.{FollowsOn, Cut, AreSeparated}
 use Rattle.dcsctp_delivery_directions.specs.order.Rising.{IsAhead}
 use Rattle.dcsctp_delivery_directions.specs.order.Order.{IsReadAs, StreamInOrder}
 use Rattle.dcsctp_delivery_directions.specs.order.Epochs.{AreReadByEpoch}
 
+-- With each ordered message of the stream that was sent, each of a lower number was begun before, from the floor on.
+abbrev pub AreDenseBefore : History → ℕ → Type 0
+AreDenseBefore history id =
+    (n : ℕ) (f : Piece) → at_place n history.log ≡ Some (Some f) → f.message.stream ≡ id → f.message.is_unordered ≡ false
+    → (mid : ℕ) → history.floors id false ≤ mid → mid ≤ f.mid → (b : IsBegunUnder history.log id mid) × (b.offset ≤ n)
+
 -- The log is one of I-DATA whose numbers follow the queue, and tell its messages apart. Those of the ordered messages of this
--- stream begin at a multiple of 2^32, and fewer than 2^31 were given since its last reset.
+-- stream begin at a multiple of 2^32, and fewer than 2^31 were given since its last reset. None is left out.
 pub record CountsFromZero (history : History) (id : ℕ) : Type 0 where
   pub kinds : AreOfKind true history.log
   pub follows : FollowsOn id history.log
@@ -25,20 +31,23 @@ pub record CountsFromZero (history : History) (id : ℕ) : Type 0 where
       → f.mid ≡ g.mid → f.place ≡ g.place
   pub floor : history.floors id false % 2 ^ 32 ≡ 0
   pub few : (n : ℕ) (f : Piece) → at_place n history.log ≡ Some (Some f) → f.message.stream ≡ id → f.message.is_unordered ≡ false → f.mid < history.floors id false + 2 ^ 31
+  pub dense : AreDenseBefore history id
 
 -- The next number is one of those from the first on.
 pub record IsInReach (stream : StreamModel) : Type 0 where
   pub from : 2 ^ 32 ≤ stream.next
   pub up_to : stream.next ≤ 2 ^ 32 + 2 ^ 31
 
--- What is watched of a stream: when are resets of it asked for, and which were performed?
+-- What is watched of a stream: when are resets of it asked for, and which were performed? And is it known of all TSNs without
+-- limits that count as received that they were?
 pub record Watch : Type 0 where
   pub asks : ℕ → Bool
   pub cuts : List Cut
+  pub knows_all : Bool
 
 -- none was performed
-abbrev pub uncut : (ℕ → ℕ → Bool) → ℕ → Watch
-uncut asks id = record { asks = asks id; cuts = [] }
+abbrev pub uncut : Bool → (ℕ → ℕ → Bool) → ℕ → Watch
+uncut knows_all asks id = record { asks = asks id; cuts = []; knows_all = knows_all }
 
 -- a reset of each may be asked for at any time
 abbrev pub any_asked : ℕ → ℕ → Bool

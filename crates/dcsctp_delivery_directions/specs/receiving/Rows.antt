@@ -40,6 +40,7 @@ pub record IsPieceRow (log : List Slot) (got : List ℕ) (base : ℕ → ℕ) (N
   pub later : offset ≤ last_offset
   pub fsns : (last.fsn + 1) % 2 ^ 32 ≡ (head.fsn + length run.payloads) % 2 ^ 32
   pub near : head.is_interleaved ≡ false → last_offset + 1 ≡ offset + length run.payloads
+  pub spread : offset + length run.payloads ≤ last_offset + 1
   pub some : 0 < length run.payloads
   pub covered : (n : ℕ) (f : Piece) → at_place n log ≡ Some (Some f) → f.place ≡ head.place → offset ≤ n → n ≤ last_offset → HasEntry n got
   pub place : last.place ≡ head.place

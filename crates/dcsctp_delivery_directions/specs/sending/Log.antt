@@ -51,6 +51,10 @@ abbrev pub IsEndSlot : Slot → Type 0
 IsEndSlot None = Unit {0}
 IsEndSlot (Some piece) = is_end piece ≡ true
 
+-- Its message ends with it, or may be abandoned.
+abbrev pub IsEndOrLimited : Piece → Type 0
+IsEndOrLimited piece = (is_end piece ≡ true) ⊎ (piece.message.is_limited ≡ true)
+
 abbrev pub piece_bytes : Piece → List ℕ
 piece_bytes piece = take piece.size (drop piece.start piece.message.payload)
 
@@ -113,7 +117,8 @@ HasEarlier log number piece = (IsInRow piece × (0 < number)) ⊎ IsAfterPiece l
 -- The log is one of messages that were queued. The pieces of a message come in order; only the first TSN of an association, and
 -- with interleaving the first of a stream, may carry the rest of a message whose beginning was sent in an earlier one. Of two
 -- messages of a stream the one that is begun later was queued later, and with interleaving has the higher number, if both are
--- ordered or both unordered. Right after a piece an end without one is that of its message, which may be abandoned.
+-- ordered or both unordered. Right after a piece an end without one is that of its message, which may be abandoned. On each stream a
+-- message is begun only once the one before has ended, if that may not be abandoned.
 pub record IsLogOfPieces (queued : List Message) (log : List Slot) : Type 0 where
   pub pieces : (n : ℕ) (f : Piece) → at_place n log ≡ Some (Some f) → IsPiece queued f
   pub rows : (n : ℕ) (f : Piece) → at_place n log ≡ Some (Some f) → 0 < f.start → HasEarlier log n f → HasBefore log n f
@@ -122,6 +127,8 @@ pub record IsLogOfPieces (queued : List Message) (log : List Slot) : Type 0 wher
   pub climbs : (m n : ℕ) (f g : Piece) → m < n → at_place m log ≡ Some (Some f) → at_place n log ≡ Some (Some g) → g.start ≡ 0 → g.is_interleaved ≡ true
       → f.message.stream ≡ g.message.stream → f.message.is_unordered ≡ g.message.is_unordered → f.mid < g.mid
   pub shuts : (n : ℕ) (f : Piece) → at_place n log ≡ Some (Some f) → at_place (n + 1) log ≡ Some None → f.message.is_limited ≡ true
+  pub ends : (m n : ℕ) (f g : Piece) → m < n → at_place m log ≡ Some (Some f) → at_place n log ≡ Some (Some g) → f.message.stream ≡ g.message.stream → g.start ≡ 0
+      → ((k : ℕ) (h : Piece) → m < k → k < n → at_place k log ≡ Some (Some h) → h.message.stream ≡ g.message.stream → ⊥) → IsEndOrLimited f
 
 -- ---- what the sender of an association has done
 

@@ -1,18 +1,18 @@
 -- How messages are numbered. With interleaving no two of a stream have one number in an association,
 -- among ordered messages and among unordered ones (RFC 8260, section 2.1); after a reset the numbers
 -- of a stream continue from a new floor. Without it SSNs count the ordered messages of a stream.
-use Rattle.std.specs.Prelude.{◌≡◌, ◌<◌, ◌≤◌, ◌+◌, ◌%◌, ◌^◌, ℕ, Bool, true, false, Option, None, Some, is_some, List, length}
+use Rattle.std.specs.Prelude.{◌≡◌, ◌<◌, ◌≤◌, ◌+◌, ◌%◌, ◌^◌, ℕ, Bool, true, false, Option, None, Some, is_some, List, length, ◌||◌, not, ◌*◌}
 use Rattle.dcsctp_spec.specs.types.declared.ids.StreamId.{StreamId}
 use Rattle.dcsctp_spec.specs.types.declared.sending.UnderWay.{UnderWay}
 use Rattle.dcsctp_spec.specs.types.declared.sending.Pause.{Pause}
 use Rattle.dcsctp_spec.specs.types.declared.sending.Pause.TheVariants.{Open, Pausing, HandedOut}
 use Rattle.dcsctp_spec.specs.types.queues.SendStreams.{Waiting, Stream, front_of, next_numbers, unused_stream}
-use Rattle.dcsctp_spec.specs.queues.SendQueue.{SendQueueState, stream_found}
-use Rattle.dcsctp_spec.specs.queues.Sending.{is_kept_whole}
+use Rattle.dcsctp_spec.specs.queues.SendQueue.{SendQueueState, stream_found, queue_interleaves}
 use Rattle.dcsctp_spec.specs.queues.Transfer.{Transfer}
 use Rattle.dcsctp_delivery_directions.specs.sending.Places.{HasEntry, at_place}
-use Rattle.dcsctp_delivery_directions.specs.sending.Log.{Piece, Slot, Mark, newest, newest_on, IsNewestOn, is_end, History, Resets}
+use Rattle.dcsctp_delivery_directions.specs.sending.Log.{Piece, Slot, Mark, newest, newest_on, IsNewestOn, is_end, History, Resets, IsEndOrLimited}
 use Rattle.dcsctp_delivery_directions.specs.sending.Turns.{begun_on, turn_of_tsn, IsSsnOfTurn}
+use Rattle.dcsctp_spec.specs.queues.Sending.{may_be_abandoned}
 
 -- the stream of this number, or one that was never used
 abbrev pub stream_named : ℕ → List Stream → Stream
@@ -59,6 +59,24 @@ abbrev pub LastIs : History → List Stream → (ℕ → Bool → ℕ) → ℕ �
 LastIs history streams counts id None = Unit {0}
 LastIs history streams counts id (Some under_way) = IsLastBegun history streams counts id under_way
 
+-- The first piece of the ordered message of the stream with this number was sent.
+pub record IsBegunUnder (log : List Slot) (id mid : ℕ) : Type 0 where
+  pub offset : ℕ
+  pub piece : Piece
+  pub at : at_place offset log ≡ Some (Some piece)
+  pub stream : piece.message.stream ≡ id
+  pub ordered : piece.message.is_unordered ≡ false
+  pub start : piece.start ≡ 0
+  pub under : piece.mid ≡ mid
+
+-- No ordered message of the stream was under way where the association began: else the floor of its unordered ones is above this.
+abbrev pub AreFloorsClose : (ℕ → Bool → ℕ) → ℕ → Type 0
+AreFloorsClose floors id = floors id true < 2 ^ 32 * (floors id false + 1)
+
+-- So it is, and the numbers of its ordered messages begin at a multiple of 2^32.
+abbrev pub AreFloorsAtZero : (ℕ → Bool → ℕ) → ℕ → Type 0
+AreFloorsAtZero floors id = (floors id false % 2 ^ 32 ≡ 0) × AreFloorsClose floors id
+
 -- Messages are counted apart for each stream, and for ordered and unordered messages. `counts` are how many messages have a
 -- number since the stream was reset: one for each TSN at most, and the one that was under way where the association began.
 pub record CountsMessages (history : History) (streams : List Stream) : Type 0 where
@@ -70,6 +88,7 @@ pub record CountsMessages (history : History) (streams : List Stream) : Type 0 w
   pub apart : (m n : ℕ) (f g : Piece) → at_place m history.log ≡ Some (Some f) → at_place n history.log ≡ Some (Some g) → f.message.stream ≡ g.message.stream
       → f.message.is_unordered ≡ g.message.is_unordered → f.mid ≡ g.mid → f.place ≡ g.place
   pub going : (id : ℕ) → LastIs history streams counts id (stream_named id streams).under_way
+  pub dense : (id : ℕ) → AreFloorsClose history.floors id → (k : ℕ) → k < counts id false → IsBegunUnder history.log id (history.floors id false + k)
 
 -- The SSNs of the stream began at 0 in the association, and no reset of it was begun.
 pub record IsFromStart (history : History) (id : ℕ) : Type 0 where
@@ -99,11 +118,15 @@ abbrev pub CountsByKind : Bool → History → List Stream → Option StreamId �
 CountsByKind false history streams held = CountsSsns history streams held
 CountsByKind true history streams held = CountsMessages history streams
 
--- A message that is kept whole is under way on the stream alone that is held. That stream has one under way, and what was sent
+-- Is the message kept whole whatever else is under way: may it be abandoned, or are messages not interleaved?
+abbrev pub is_always_whole : Waiting → SendQueueState → Bool
+is_always_whole message queue = may_be_abandoned message || not (queue_interleaves queue)
+
+-- A message that is always kept whole is under way on the stream alone that is held. That stream has one under way, and what was sent
 -- last is of it.
 pub record HoldsWhole (log : List Slot) (queue : SendQueueState) : Type 0 where
   pub each : (id : ℕ) (waiting : Waiting) → is_some (stream_named id queue.streams).under_way ≡ true → front_of (stream_named id queue.streams).messages ≡ Some waiting
-      → is_kept_whole waiting queue ≡ true → queue.held ≡ Some (record { 0 = id })
+      → is_always_whole waiting queue ≡ true → queue.held ≡ Some (record { 0 = id })
   pub held : (id : ℕ) → queue.held ≡ Some (record { 0 = id }) → is_some (stream_named id queue.streams).under_way ≡ true
   pub newest : (id : ℕ) → queue.held ≡ Some (record { 0 = id }) → IsNewestOn id log
 
@@ -115,26 +138,38 @@ AreOfKind is_interleaved log = (n : ℕ) (f : Piece) → at_place n log ≡ Some
 abbrev pub IsPieceOfKind : Bool → List Slot → ℕ → Type 0
 IsPieceOfKind is_interleaved log number = (f : Piece) → at_place number log ≡ Some (Some f) → f.is_interleaved ≡ is_interleaved
 
+-- Where no message is under way, the stream's newest piece ends one, or is of one that may be abandoned.
+abbrev pub RestAtEnds : List Slot → List Stream → Type 0
+RestAtEnds log streams = (id : ℕ) → (stream_named id streams).under_way ≡ None → (f : Piece) → newest_on id log ≡ Some f → IsEndOrLimited f
+
 -- So the messages of a queue are numbered.
 pub record NumbersMessages (history : History) (queue : SendQueueState) : Type 0 where
   pub kinds : AreOfKind queue.is_interleaved history.log
   pub counts : CountsByKind queue.is_interleaved history queue.streams queue.held
   pub kept : IsUnderWayKept queue.streams
   pub whole : HoldsWhole history.log queue
+  pub rests : RestAtEnds history.log queue.streams
 
 -- What is in flight is sent as the queue numbers messages.
 abbrev pub IsOfKind : Bool → Option Transfer → Type 0
 IsOfKind is_interleaved None = Unit {0}
 IsOfKind is_interleaved (Some transfer) = transfer.retransmission.outstanding.is_interleaved ≡ is_interleaved
 
+-- With each number of an ordered message of the stream that was sent, each lower one was begun, from the floor on.
+abbrev pub AreDense : History → ℕ → Type 0
+AreDense history id =
+    (n : ℕ) (f : Piece) → at_place n history.log ≡ Some (Some f) → f.message.stream ≡ id → f.message.is_unordered ≡ false
+    → (mid : ℕ) → history.floors id false ≤ mid → mid ≤ f.mid → IsBegunUnder history.log id mid
+
 -- The log of an association in which fewer than 2^31 TSNs were assigned, as its receiver sees it: all is DATA; or all is
--- I-DATA, and pieces under one number are of one message. No number is far above the floor of its stream.
+-- I-DATA, and pieces under one number are of one message. No number is far above the floor of its stream. None is left out, if no
+-- message was under way at first.
 pub data IsUnambiguous (history : History) : Type 0 where
   plain : AreOfKind false history.log → IsUnambiguous history
   interleaved : AreOfKind true history.log → length history.log < 2 ^ 31
       → ((n : ℕ) (f : Piece) → at_place n history.log ≡ Some (Some f) → f.mid < history.floors f.message.stream f.message.is_unordered + 2 ^ 31)
       → ((m n : ℕ) (f g : Piece) → at_place m history.log ≡ Some (Some f) → at_place n history.log ≡ Some (Some g) → f.message.stream ≡ g.message.stream
-      → f.message.is_unordered ≡ g.message.is_unordered → f.mid ≡ g.mid → f.place ≡ g.place) → IsUnambiguous history
+      → f.message.is_unordered ≡ g.message.is_unordered → f.mid ≡ g.mid → f.place ≡ g.place) → ((id : ℕ) → AreFloorsClose history.floors id → AreDense history id) → IsUnambiguous history
 
 -- This holds for each such log.
 abbrev pub LogsAreUnambiguous : Type 0

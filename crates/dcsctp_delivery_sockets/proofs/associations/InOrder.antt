@@ -37,7 +37,7 @@ use Rattle.dcsctp_delivery_directions.proofs.epochs.CutsAsked.{none_performed, d
 use Rattle.dcsctp_delivery_sockets.proofs.associations.FewMarks.{few_marks}
 use Rattle.dcsctp_delivery_directions.proofs.order.PlainFront.{plain_streams_deliver_without_gaps, plain_directions_deliver_without_gaps}
 use Rattle.dcsctp_delivery_sockets.specs.associations.Ends.{ReceivingEnd, direction_of_ends, Ends, sender_key, HadKind, IsOnlyOwn, NumbersFromZero, Awaits, chunks_before, IsCurrentEnd, Between, sending_side, receiving_side}
-use Rattle.dcsctp_delivery_sockets.specs.associations.InOrder.{InterleavesUnder, IsReliableKept, AreThrough}
+use Rattle.dcsctp_delivery_sockets.specs.associations.InOrder.{full_asks, InterleavesUnder, IsReliableKept, AreThrough}
 use Rattle.dcsctp_delivery_sockets.specs.associations.Reads.{Reading, with_key}
 use Rattle.dcsctp_delivery_sockets.proofs.associations.Delivers.{were_unmarked}
 use Rattle.dcsctp_delivery_sockets.proofs.associations.Senders.{link_tag}
@@ -133,16 +133,16 @@ before_unmarked marks queued contents places asks id end found were gap earlier 
     (λ place from to mine. (let f = found place mine.message mine.at in f.is.limited ∙ free place from to (record { message = f.message; at = f.at; stream = sym f.is.stream ∙ mine.stream; ordered = sym f.is.unordered ∙ mine.ordered })))
 
 -- So it is where it is less known what the sender began with.
-cut_if : (whole all : Bool) (asks : ℕ → ℕ → Bool) (performed : List PerformedReset) (queued : List Message) (contents : List MessageContent) → (whole ≡ true → all ≡ true) → AreCutAsAsked all asks performed queued contents → AreCutAsAsked whole asks performed queued contents
-cut_if whole all asks performed queued contents so d =
+cut_if : (whole all : Bool) (asks fulls : ℕ → ℕ → Bool) (performed : List PerformedReset) (queued : List Message) (contents : List MessageContent) → (whole ≡ true → all ≡ true) → AreCutAsAsked all asks fulls performed queued contents → AreCutAsAsked whole asks fulls performed queued contents
+cut_if whole all asks fulls performed queued contents so d =
     record {
       ordered = d.ordered;
-      cut = λ id reset has names. (let c = d.cut id reset has names in record { place = c.place; asked = c.asked; separates = c.separates; no_gap = λ is. c.no_gap (so is) });
+      cut = λ id reset has names. (let c = d.cut id reset has names in record { place = c.place; asked = c.asked; before = c.before; separates = c.separates; no_gap = λ is. c.no_gap (so is); all = λ is. c.all (so is) });
       no_gap = λ is. d.no_gap (so is);
     }
 
-cut_unmarked : (whole : Bool) (asks : ℕ → ℕ → Bool) (performed : List PerformedReset) (marks queued : List Message) (contents : List MessageContent) → AllFound marks queued → length marks ≤ length queued → AreCutAsAsked whole asks performed marks contents → AreCutAsAsked whole asks performed queued contents
-cut_unmarked whole asks performed marks queued contents found short d =
+cut_unmarked : (whole : Bool) (asks fulls : ℕ → ℕ → Bool) (performed : List PerformedReset) (marks queued : List Message) (contents : List MessageContent) → AllFound marks queued → length marks ≤ length queued → AreCutAsAsked whole asks fulls performed marks contents → AreCutAsAsked whole asks fulls performed queued contents
+cut_unmarked whole asks fulls performed marks queued contents found short d =
     record {
       ordered = in_order_unmarked marks queued contents found d.ordered;
       cut = λ id reset has names. (
@@ -152,6 +152,12 @@ cut_unmarked whole asks performed marks queued contents found short d =
             asked = c.asked;
             separates = separate_unmarked marks queued id reset.index c.place d.ordered.delivered.places contents found d.ordered.delivered.were_queued c.separates;
             no_gap = λ is. before_unmarked marks queued contents d.ordered.delivered.places (asks id) id c.place found d.ordered.delivered.were_queued (c.no_gap is);
+            before = (let before = c.before in omega (arith, before, short));
+            all = λ is full low free place on below one. (
+                let first = below_at place marks (let before = c.before in omega (arith, below, before)) in
+                c.all is full low (λ p from to mine. (let f = found p mine.message mine.at in f.is.limited ∙ free p from to (record { message = f.message; at = f.at; stream = sym f.is.stream ∙ mine.stream; ordered = sym f.is.unordered ∙ mine.ordered })))
+                place (is_ordered marks queued id place found first on) below one
+                );
           }
           );
       no_gap = λ is id earlier later has on on' before less one free. (
@@ -309,21 +315,26 @@ module _ (options : Options) (ends : Ends) (e : Endpoint) (queued : List Message
   nothing_performed tag (inl nought) = elim (h.receiver.begun tag) [ inl new ↦ ap (λ (g : ReceivingEnd). g.performed) new | inr had ↦ absurd (had.some nought) ]
   nothing_performed tag (inr waits) = none_performed options (ends.firsts tag) options.max_receiver_window_buffer_size (own tag) (h.runs tag) (ap (λ (a : Asking). a.requests) waits.asking)
 
+  -- when nothing waits as a reset is asked for
+  abbrev full_calls : ℕ → ℕ → Bool
+  full_calls = full_asks ends.calls.empties options.max_receiver_window_buffer_size
+
   -- The resets of this tag are cuts, without gaps if that is known of its sender.
   cut_so : (whole : Bool) (tag : ℕ) → (tag ≢ 0 → whole ≡ true → (ends.sends tag).beginning.has_all ≡ true) → NumbersFromZero e past tag → InterleavesUnder past tag
-      → AreCutAsAsked whole ends.calls.asks (ends.gets tag).performed queued (with_key tag reading.reads)
+      → AreCutAsAsked whole ends.calls.asks full_calls (ends.gets tag).performed queued (with_key tag reading.reads)
   cut_so whole tag all anew interleaves =
       elim (decide tag 0) [
         | inl nought ↦ uncut (none_at_zero tag nought) (nothing_performed tag (inl nought))
         | inr some ↦ elim (h.sender.kinds tag some) [
           | inl waits ↦ uncut (none_awaited tag waits) (nothing_performed tag (inr waits))
           | inr had ↦
-              cut_unmarked whole ends.calls.asks (ends.gets tag).performed (ends.sends tag).queued queued (with_key tag reading.reads) (h.sender.marks tag) (h.sender.short tag)
-              (cut_if whole (ends.sends tag).beginning.has_all ends.calls.asks (ends.gets tag).performed (ends.sends tag).queued (with_key tag reading.reads) (all some)
-              (subst (AreCutAsAsked (ends.sends tag).beginning.has_all ends.calls.asks (ends.gets tag).performed (ends.sends tag).queued) (sym (h.receiver.were_read tag))
-              (subst (λ (asks : ℕ → ℕ → Bool). AreCutAsAsked (ends.sends tag).beginning.has_all asks (ends.gets tag).performed (ends.sends tag).queued (ends.gets tag).read) (h.dropping tag).asks
+              cut_unmarked whole ends.calls.asks full_calls (ends.gets tag).performed (ends.sends tag).queued queued (with_key tag reading.reads) (h.sender.marks tag) (h.sender.short tag)
+              (cut_if whole (ends.sends tag).beginning.has_all ends.calls.asks full_calls (ends.gets tag).performed (ends.sends tag).queued (with_key tag reading.reads) (all some)
+              (subst (AreCutAsAsked (ends.sends tag).beginning.has_all ends.calls.asks full_calls (ends.gets tag).performed (ends.sends tag).queued) (sym (h.receiver.were_read tag))
+              (subst (λ (asks : ℕ → ℕ → Bool). AreCutAsAsked (ends.sends tag).beginning.has_all asks full_calls (ends.gets tag).performed (ends.sends tag).queued (ends.gets tag).read) (h.dropping tag).asks
+              (subst (λ (empties : ℕ → ℕ → Bool). AreCutAsAsked (ends.sends tag).beginning.has_all (ends.sends tag).beginning.asks (full_asks empties options.max_receiver_window_buffer_size) (ends.gets tag).performed (ends.sends tag).queued (ends.gets tag).read) (h.dropping tag).empties
               (directions_cut_as_asked options (ends.firsts tag) options.max_receiver_window_buffer_size (own tag) (h.runs tag) (h.small tag) (little tag) (short tag)
-              (sym (had.kind_is interleaves.0 interleaves.1 interleaves.2) ∙ interleaves.3) (h.numbered tag some anew)))))
+              (sym (had.kind_is interleaves.0 interleaves.1 interleaves.2) ∙ interleaves.3) (h.numbered tag some anew))))))
         ]
       ]
     where
@@ -332,7 +343,7 @@ module _ (options : Options) (ends : Ends) (e : Endpoint) (queued : List Message
       no_place (p ∷ places) [] none were place has = were
       no_place (p ∷ places) (c ∷ contents) none were place has = absurd (cc)
 
-      uncut : with_key tag reading.reads ≡ [] → (ends.gets tag).performed ≡ [] → AreCutAsAsked whole ends.calls.asks (ends.gets tag).performed queued (with_key tag reading.reads)
+      uncut : with_key tag reading.reads ≡ [] → (ends.gets tag).performed ≡ [] → AreCutAsAsked whole ends.calls.asks full_calls (ends.gets tag).performed queued (with_key tag reading.reads)
       uncut none none' =
           let ordered : AreDeliveredInOrder queued (with_key tag reading.reads) = nothing_in_order queued (with_key tag reading.reads) none in
           record {
@@ -341,10 +352,10 @@ module _ (options : Options) (ends : Ends) (e : Endpoint) (queued : List Message
             no_gap = λ is id earlier later has. absurd (no_place ordered.delivered.places (with_key tag reading.reads) none ordered.delivered.were_queued later has);
           }
 
-  pub ends_cut_as_asked : (tag : ℕ) → NumbersFromZero e past tag → InterleavesUnder past tag → AreCutAsAsked false ends.calls.asks (ends.gets tag).performed queued (with_key tag reading.reads)
+  pub ends_cut_as_asked : (tag : ℕ) → NumbersFromZero e past tag → InterleavesUnder past tag → AreCutAsAsked false ends.calls.asks full_calls (ends.gets tag).performed queued (with_key tag reading.reads)
   ends_cut_as_asked tag = cut_so false tag (λ some is. absurd (cc))
 
-  pub ends_cut_without_gaps : (tag : ℕ) → IsOnlyOwn past tag → InterleavesUnder past tag → AreCutAsAsked true ends.calls.asks (ends.gets tag).performed queued (with_key tag reading.reads)
+  pub ends_cut_without_gaps : (tag : ℕ) → IsOnlyOwn past tag → InterleavesUnder past tag → AreCutAsAsked true ends.calls.asks full_calls (ends.gets tag).performed queued (with_key tag reading.reads)
   ends_cut_without_gaps tag only = cut_so true tag (λ some is. (h.kept tag some only).whole) (inr only)
 
   pub ends_deliver_by_stream : (tag : ℕ) → IsOnlyOwn past tag → InterleavesUnder past tag → AreDeliveredByStream ends.calls.never queued (with_key tag reading.reads)

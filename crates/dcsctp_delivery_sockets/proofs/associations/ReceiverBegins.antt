@@ -113,7 +113,7 @@ module _ (options : Options) (ends : Ends) (e : Endpoint) (queued : List Message
           | inl e' ↦ subst (MetOrAlone options (record ends { sends = ends.sends; gets = table_with tag got ends.gets; firsts = firsts }) past (after_effects o.effects their_past)) (sym e')
               (inr (subst (λ (n : ℕ). DirectionRun options n options.max_receiver_window_buffer_size (direction_of_ends (unbegun_end options) (table_with tag got ends.gets tag))) (sym here)
               (subst (λ (g : ReceivingEnd). DirectionRun options first options.max_receiver_window_buffer_size (direction_of_ends (unbegun_end options) g)) (sym (set_same tag got ends.gets))
-              (opened_by (unbegun_end options) (senders_begin options options first options.max_receiver_window_buffer_size (λ id. false) (λ id count. false))))))
+              (opened_by (unbegun_end options) (senders_begin options options first options.max_receiver_window_buffer_size (λ id. false) (λ id count. false) (λ id count. false))))))
           | inr ne ↦
               alone_later options ends (record ends { sends = ends.sends; gets = table_with tag got ends.gets; firsts = firsts }) past past their_past (after_effects o.effects their_past) (λ effect has. has) (after_within o.effects their_past) t
               (set_other tag t got ends.gets ne) (others t ne) (h.alone t)

@@ -173,7 +173,7 @@ module _ (options : Options) (ends : Ends) (e : Endpoint) (queued : List Message
 
   -- Do the numbers of each stream begin at 0, and does it begin with all that was queued?
   abbrev pub begins_anew : Beginning
-  begins_anew = record { from_zero = e.options.follow_rfc || never_held past; has_all = never_held past; keeps = λ id. ends.calls.never id && never_held past; asks = ends.calls.asks }
+  begins_anew = record { from_zero = e.options.follow_rfc || never_held past; has_all = never_held past; keeps = λ id. ends.calls.never id && never_held past; asks = ends.calls.asks; empties = ends.calls.empties }
 
   -- So it does.
   pub begins_so : BeginsAs begins_anew marks begun.queue
@@ -220,6 +220,7 @@ module _ (options : Options) (ends : Ends) (e : Endpoint) (queued : List Message
       (record {
         dropped = λ id resets. ap (λ (b : Beginning). b.keeps id) here ∙ ap (λ (b : Bool). b && never_held past) resets;
         asks = ap (λ (b : Beginning). b.asks) here;
+        empties = ap (λ (b : Beginning). b.empties) here;
       }) (λ tag ne. h.dropping tag)
 
   -- So they do in the new association, if it is the only one or the sender follows the RFC, and in each other as before.
@@ -357,9 +358,9 @@ module _ (options : Options) (ends : Ends) (e : Endpoint) (queued : List Message
       let new_alone : DirectionRun options (firsts to) options.max_receiver_window_buffer_size (direction_of_ends (unbegun_end options) (gets to)) =
       subst (λ (n : ℕ). DirectionRun options n options.max_receiver_window_buffer_size (direction_of_ends (unbegun_end options) (gets to))) (sym (set_same to first ends.firsts))
       (subst (λ (g : ReceivingEnd). DirectionRun options first options.max_receiver_window_buffer_size (direction_of_ends (unbegun_end options) g)) (sym (set_same to (new_end options first) ends.gets))
-      (senders_begin options options first options.max_receiver_window_buffer_size (λ id. false) (λ id count. false))) in
+      (senders_begin options options first options.max_receiver_window_buffer_size (λ id. false) (λ id count. false) (λ id count. false))) in
       let run = later options options.max_receiver_window_buffer_size
-      (new_direction options first options.max_receiver_window_buffer_size [] (record { queue = empty_queue options; transfer = None }) 0 [] (record { from_zero = true; has_all = true; keeps = λ id. false; asks = λ id count. false })) marks begins_anew shown fit (senders_begin options options first options.max_receiver_window_buffer_size (λ id. false) (λ id count. false))
+      (new_direction options first options.max_receiver_window_buffer_size [] (record { queue = empty_queue options; transfer = None }) 0 [] (record { from_zero = true; has_all = true; keeps = λ id. false; asks = λ id count. false; empties = λ id count. false })) marks begins_anew shown fit (senders_begin options options first options.max_receiver_window_buffer_size (λ id. false) (λ id count. false) (λ id count. false))
       (record { queued = refl; sent = refl; acknowledged = refl; transfer = refl; asking = refl }) begins_so in
       let end : SendingEnd = renewed_end ends (sender_key e.core) (peer_tag e.core) e.queues queued past packets h.sender o.effects to begun.held.peer.tag o.after.queues run.0 ps run.1 begins_anew gets firsts None in
       let ends' : Ends = renewed_ends ends (sender_key e.core) (peer_tag e.core) e.queues queued past packets h.sender o.effects to begun.held.peer.tag o.after.queues run.0 ps run.1 begins_anew gets firsts None in

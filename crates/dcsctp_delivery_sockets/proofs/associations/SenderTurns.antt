@@ -398,6 +398,7 @@ module _ (options : Options) (ends : Ends) (e : Endpoint) (queued : List Message
       let does : resets_stream id input ≡ true = named_by input ids id is ∙ named in
       record {
         dropped = (h.dropping key).dropped id (resets_some id does (ends.calls.never id) refl);
+        empty = λ is. resets.empty accepted id does (sym (ap (λ (empties : ℕ → ℕ → Bool). empties id (length (ends.sends key).queued)) (h.dropping key).empties ∙ ap (ends.calls.empties id) h.sender.long) ∙ is);
         asked = ap (λ (asks : ℕ → ℕ → Bool). asks id (length (ends.sends key).queued)) (h.dropping key).asks ∙ ap (ends.calls.asks id) h.sender.long ∙ resets.asks accepted id does;
       }
       ))
@@ -410,7 +411,7 @@ module _ (options : Options) (ends : Ends) (e : Endpoint) (queued : List Message
       or_true true = refl
       or_true false = refl
 
-      among_resets : (some : List ℕ) → ((id : ℕ) → is_named some id ≡ true → MayReset (ends.sends key).beginning (length (ends.sends key).queued) id) → AllByRecursion (MayReset (ends.sends key).beginning (length (ends.sends key).queued)) some
+      among_resets : (some : List ℕ) → ((id : ℕ) → is_named some id ≡ true → MayReset (ends.sends key).beginning (length (ends.sends key).queued) e.queues.queue.streams id) → AllByRecursion (MayReset (ends.sends key).beginning (length (ends.sends key).queued) e.queues.queue.streams) some
       among_resets [] each = tt
       among_resets (id ∷ some) each = (each id (rw (eq-eqb id id refl) refl), among_resets some (λ other named. each other (rw named (or_true (id == other)))))
 

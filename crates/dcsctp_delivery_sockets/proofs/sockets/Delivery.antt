@@ -1,6 +1,7 @@
 -- Over an honest run in which each tag serves one association, what a user reads is what its peer's
 -- user sent.
 use Rattle.std.proofs.Common.{◌≡◌, ℕ, zero, suc, List, [], ◌∷◌, ◌++◌, length, refl, sym, ◌∙◌, ap, subst, inl, inr, Bool, true, not, ◌<◌, ◌^◌, false, ◌+◌, arith}
+use Rattle.std.proofs.lemmas.Bool.Decides.{leb_tells}
 use Rattle.std.specs.Prelude.{◌⊎◌, Option, None, Some}
 use Rattle.std.specs.List.{slice_get}
 use Rattle.std.proofs.lemmas.List.{append-nil}
@@ -34,8 +35,8 @@ use Rattle.dcsctp_delivery_sockets.specs.sockets.UserMessages.{messages_of_turns
 use Rattle.dcsctp_delivery_sockets.specs.sockets.Delivery.{FitsStep, AreInMemory, MatchOrUnmatched, SendsLittle, SendsLittleTogether, TurnsAllowDelivery, Delivers, SocketsDeliver, IsOfNewTagsBut}
 use Rattle.dcsctp_delivery_sockets.proofs.associations.Delivers.{ends_begin, ends_deliver}
 use Rattle.dcsctp_delivery_sockets.specs.sockets.Acts.{ResetsThrough}
-use Rattle.dcsctp_delivery_sockets.specs.sockets.Epochs.{HasReset, ReportsPeerReset, IsDeliveredByEpoch, IsDeliveredInEpochs}
-use Rattle.dcsctp_delivery_sockets.proofs.sockets.AskedResets.{asked_through, asked_first, asked_later, has_reset_so}
+use Rattle.dcsctp_delivery_sockets.specs.sockets.Epochs.{HasReset, ReportsPeerReset, IsDeliveredByEpoch, IsDeliveredInEpochs, ResetsWithNoneWaiting}
+use Rattle.dcsctp_delivery_sockets.proofs.sockets.AskedResets.{asked_through, asked_first, asked_later, emptied_through, emptied_first, emptied_later, emptied_so, has_reset_so}
 use Rattle.dcsctp_delivery_sockets.proofs.sockets.Epochs.{is_by_epoch, is_in_epochs}
 use Rattle.dcsctp_delivery_directions.specs.sending.Log.{Message}
 use Rattle.dcsctp_delivery_sockets.specs.turns.Actions.{queued_after, resets_streams, resets_stream}
@@ -237,17 +238,20 @@ not_false true c is = absurd (cc)
 not_false false c is = (refl, is)
 
 resets_so : (reset_calls : ResetCalls) (e : Endpoint) (queued : List Message) (turns : List Transition) → ((stream : ℕ) → reset_calls.never stream ≡ true → resets_none turns stream ≡ true)
-    → ((stream count : ℕ) → asked_through e queued turns stream count ≡ true → reset_calls.asks stream count ≡ true) → ResetsThrough reset_calls e queued turns
-resets_so reset_calls e queued [] is asks = tt
-resets_so reset_calls e queued (turn ∷ turns) is asks =
+    → ((stream count : ℕ) → asked_through e queued turns stream count ≡ true → reset_calls.asks stream count ≡ true) → ((stream count : ℕ) → reset_calls.empties stream count ≡ true → emptied_through e queued turns stream count ≡ true)
+    → ResetsThrough reset_calls e queued turns
+resets_so reset_calls e queued [] is asks empties = tt
+resets_so reset_calls e queued (turn ∷ turns) is asks empties =
     let each : ((stream : ℕ) → reset_calls.never stream ≡ true → (resets_stream stream turn.input ≡ false) × (resets_none turns stream ≡ true)) =
     λ stream never_so. not_false (resets_stream stream turn.input) (resets_none turns stream) (is stream never_so) in (
       record {
         never = λ stream never_so. (each stream never_so).0;
         asks = λ accepted stream does. asks stream (length queued) (asked_first e queued turn turns stream accepted does);
+        empty = λ accepted stream does known. emptied_first e queued turn turns stream accepted does (empties stream (length queued) known);
       },
       resets_so reset_calls turn.outcome.after (queued_after e turn.input queued) turns (λ stream never_so. (each stream never_so).1)
-          (λ stream count later. asks stream count (asked_later e queued turn turns stream count later)),
+          (λ stream count later. asks stream count (asked_later e queued turn turns stream count later))
+          (λ stream count known. emptied_later e queued turn turns stream count (empties stream count known)),
     )
 
 none_reset : (stream : ℕ) (turns : List Transition) → AllByRecursion (λ turn. resets_stream stream turn.input ≡ false) turns → resets_none turns stream ≡ true
@@ -276,7 +280,7 @@ none_of_all stream (turn ∷ turns) each = (not_this turn.input stream each.0, n
 
 -- the resets that a user asks for by these turns
 abbrev calls_of : Options → List Transition → ResetCalls
-calls_of options turns = record { never = resets_none turns; asks = asked_through (fresh_endpoint options) [] turns }
+calls_of options turns = record { never = resets_none turns; asks = asked_through (fresh_endpoint options) [] turns; empties = emptied_through (fresh_endpoint options) [] turns }
 
 abbrev both_calls : Both Options → Both (List Transition) → Both ResetCalls
 both_calls options turns = record { a = calls_of options.a turns.a; b = calls_of options.b turns.b }
@@ -292,7 +296,7 @@ both_known law told options run are runs honest fresh allows =
         packets = good_all (events_of (turns_after run).a) (all_sent_map (λ emission went. went.sendable) (events_of (turns_after run).a) j.a.went)
             (echoes_go_to_makers law.below law.answers options run are runs honest fresh sides.A);
         refused = allows.refused sides.A;
-        resets = resets_so (calls_of options.a (turns_after run).a) (fresh_endpoint options.a) [] (turns_after run).a (λ stream is. is) (λ stream count is. is);
+        resets = resets_so (calls_of options.a (turns_after run).a) (fresh_endpoint options.a) [] (turns_after run).a (λ stream is. is) (λ stream count is. is) (λ stream count is. is);
         tells = all_tell (turns_after run).a (told options run are runs sides.A);
         tags = allows.tags.a;
         little = allows.little sides.A;
@@ -304,7 +308,7 @@ both_known law told options run are runs honest fresh allows =
         packets = good_all (events_of (turns_after run).b) (all_sent_map (λ emission went. went.sendable) (events_of (turns_after run).b) j.b.went)
             (echoes_go_to_makers law.below law.answers options run are runs honest fresh sides.B);
         refused = allows.refused sides.B;
-        resets = resets_so (calls_of options.b (turns_after run).b) (fresh_endpoint options.b) [] (turns_after run).b (λ stream is. is) (λ stream count is. is);
+        resets = resets_so (calls_of options.b (turns_after run).b) (fresh_endpoint options.b) [] (turns_after run).b (λ stream is. is) (λ stream count is. is) (λ stream count is. is);
         tells = all_tell (turns_after run).b (told options run are runs sides.B);
         tags = allows.tags.b;
         little = allows.little sides.B;
@@ -483,11 +487,11 @@ module _ (reset_calls : ResetCalls) (mine theirs : Options) (turns others : List
       is_by_epoch reset_calls mine theirs turns others h (few_queued mine turns little) few_went (peers_differ mine (recorded_past others) (recorded_past turns) each) (peers_differ theirs (recorded_past turns) (recorded_past others) their_each)
       sent_all sent_same asked rules tag starts interleaves
 
-  one_in_epochs : ((stream count : ℕ) → reset_calls.asks stream count ≡ true → HasReset mine turns stream count) → (tag : ℕ) → HasOneTag (recorded_past turns) → Interleaves (recorded_past turns) tag
-      → IsDeliveredInEpochs (HasReset mine turns) (ReportsPeerReset theirs others tag) sent_all (read_under tag theirs others)
-  one_in_epochs asked tag only interleaves =
+  one_in_epochs : ((stream count : ℕ) → reset_calls.asks stream count ≡ true → HasReset mine turns stream count) → ((stream count : ℕ) → ResetsWithNoneWaiting mine turns stream count → reset_calls.empties stream count ≡ true) → (tag : ℕ) → HasOneTag (recorded_past turns) → Interleaves (recorded_past turns) tag
+      → IsDeliveredInEpochs (HasReset mine turns) (ResetsWithNoneWaiting mine turns) (ReportsPeerReset theirs others tag) sent_all (read_under tag theirs others)
+  one_in_epochs asked empties tag only interleaves =
       is_in_epochs reset_calls mine theirs turns others h (few_queued mine turns little) few_went (peers_differ mine (recorded_past others) (recorded_past turns) each) (peers_differ theirs (recorded_past turns) (recorded_past others) their_each)
-      sent_all sent_same asked tag only interleaves
+      sent_all sent_same asked tag only interleaves empties (elim (leb_tells theirs.max_receiver_window_buffer_size (2 ^ 63)) [ inl e ↦ e.0 | inr e ↦ absurd (let beyond = e.1 in omega (arith, beyond, window)) ])
 
 pub sockets_deliver : DeliveryLaws → SocketsReportEffects → SocketsDeliver
 sockets_deliver law told options run are in_memory runs honest fresh allows side =
@@ -513,7 +517,7 @@ sockets_deliver law told options run are in_memory runs honest fresh allows side
           complete = one_complete (calls_of options.b turns.b) options.b options.a turns.b turns.a (allows.little sides.B) (allows.together sides.B) h.to_a (window sides.A) known.b.tags known.a.tags (λ stream is. is);
           shared_resets = resets_shared (events_of turns.a) turns.b (told options run are runs sides.B) h.b_resets;
           by_epoch = one_by_epoch (calls_of options.b turns.b) options.b options.a turns.b turns.a (allows.little sides.B) (allows.together sides.B) h.to_a (window sides.A) known.b.tags known.a.tags (same_rules_after (calls_of options.b turns.b) options.b turns.b known.b) (has_reset_so options.b turns.b);
-          in_epochs = one_in_epochs (calls_of options.b turns.b) options.b options.a turns.b turns.a (allows.little sides.B) (allows.together sides.B) h.to_a (window sides.A) known.b.tags known.a.tags (has_reset_so options.b turns.b);
+          in_epochs = one_in_epochs (calls_of options.b turns.b) options.b options.a turns.b turns.a (allows.little sides.B) (allows.together sides.B) h.to_a (window sides.A) known.b.tags known.a.tags (has_reset_so options.b turns.b) (emptied_so options.b turns.b);
         }
     both_deliver h sides.B =
         record {
@@ -525,5 +529,5 @@ sockets_deliver law told options run are in_memory runs honest fresh allows side
           complete = one_complete (calls_of options.a turns.a) options.a options.b turns.a turns.b (allows.little sides.A) (allows.together sides.A) h.to_b (window sides.B) known.a.tags known.b.tags (λ stream is. is);
           shared_resets = resets_shared (events_of turns.b) turns.a (told options run are runs sides.A) h.a_resets;
           by_epoch = one_by_epoch (calls_of options.a turns.a) options.a options.b turns.a turns.b (allows.little sides.A) (allows.together sides.A) h.to_b (window sides.B) known.a.tags known.b.tags (same_rules_after (calls_of options.a turns.a) options.a turns.a known.a) (has_reset_so options.a turns.a);
-          in_epochs = one_in_epochs (calls_of options.a turns.a) options.a options.b turns.a turns.b (allows.little sides.A) (allows.together sides.A) h.to_b (window sides.B) known.a.tags known.b.tags (has_reset_so options.a turns.a);
+          in_epochs = one_in_epochs (calls_of options.a turns.a) options.a options.b turns.a turns.b (allows.little sides.A) (allows.together sides.A) h.to_b (window sides.B) known.a.tags known.b.tags (has_reset_so options.a turns.a) (emptied_so options.a turns.a);
         }

@@ -1,5 +1,5 @@
 -- Each reset that a user is told of splits what it reads, where the other user asked for it.
-use Rattle.std.proofs.Common.{◌≡◌, ℕ, zero, suc, Bool, true, false, ◌<◌, ◌≤◌, ◌+◌, ◌^◌, List, [], ◌∷◌, ◌++◌, length, refl, sym, ◌∙◌, ap, subst, inl, inr}
+use Rattle.std.proofs.Common.{◌≡◌, ℕ, zero, suc, Bool, true, false, ◌<◌, ◌≤◌, ◌+◌, ◌^◌, List, [], ◌∷◌, ◌++◌, length, refl, sym, ◌∙◌, ap, subst, inl, inr, take, nat_le, arith, ◌&&◌}
 use Rattle.dcsctp_spec_lemmas.specs.types.declared.options.Options.{Options}
 use Rattle.dcsctp_spec_lemmas.specs.types.queues.Messages.{MessageContent}
 use Rattle.dcsctp_spec_lemmas.specs.spec.endpoint.CallTurns.{Transition}
@@ -10,14 +10,15 @@ use Rattle.dcsctp_theorem_sockets.specs.Agreement.{recorded_past}
 use Rattle.dcsctp_delivery_directions.specs.sending.Log.{Message}
 use Rattle.dcsctp_delivery_directions.specs.sending.Places.{HasEntry}
 use Rattle.dcsctp_delivery_directions.specs.sending.ChunkCounts.{chunks_to}
+use Rattle.dcsctp_delivery_directions.specs.order.Queue as directions
 use Rattle.dcsctp_delivery_directions.specs.order.Queue.{Separates, LeaveNoGapBefore}
 use Rattle.dcsctp_delivery_directions.specs.epochs.Asked.{AreCutAsAsked}
 use Rattle.dcsctp_delivery_sockets.specs.associations.Ends.{ResetCalls, HadBoth, chunks_before, NumbersFromZero}
-use Rattle.dcsctp_delivery_sockets.specs.associations.InOrder.{Interleaves}
+use Rattle.dcsctp_delivery_sockets.specs.associations.InOrder.{Interleaves, full_asks}
 use Rattle.dcsctp_delivery_sockets.specs.associations.Reads.{ReadMessage, ReportedReset, Reading, nothing_read, tagged_after, reached_index, with_tag, with_key}
 use Rattle.dcsctp_delivery_sockets.proofs.associations.InOrder.{ends_cut_as_asked, ends_cut_without_gaps}
 use Rattle.dcsctp_delivery_sockets.proofs.associations.Tagged.{PeersDiffer, ReadUnder, nothing_under, under_key, read_under_key, read_among, crossed_reset, one_key}
-use Rattle.dcsctp_delivery_sockets.specs.sockets.Epochs.{HasReset, ReportsPeerReset, ready_count, AreSplit, IsDeliveredByEpoch, HaveNoGapBefore, IsDeliveredInEpochs}
+use Rattle.dcsctp_delivery_sockets.specs.sockets.Epochs.{HasReset, ReportsPeerReset, ready_count, AreSplit, IsDeliveredByEpoch, HaveNoGapBefore, AreReadBefore, ResetsWithNoneWaiting, IsDeliveredInEpochs}
 use Rattle.dcsctp_delivery_sockets.specs.sockets.Ordered.{HasOneTag, StartsAtZero, read_under}
 use Rattle.dcsctp_delivery_sockets.specs.sockets.Packets.{reading_through}
 use Rattle.dcsctp_delivery_sockets.proofs.sockets.Stands.{Stand, queued_of, packets_of, reading_of, reading_more}
@@ -40,6 +41,20 @@ no_gap_of queued sent same stream end places asks asked calls gap earlier later 
     unasked : (count : ℕ) (b : Bool) → asks count ≡ b → earlier < count → count ≤ later → b ≡ false
     unasked count false is from to = refl
     unasked count true is from to = absurd (one count (calls count is) from to)
+
+nothing_taken : (place index : ℕ) (places : List ℕ) → index ≤ 0 → HasEntry place (take index places) → ⊥
+nothing_taken place zero places low has = has
+nothing_taken place (suc index) places low has = absurd (omega (arith, low))
+
+-- What has all of what was queued has all of what was sent.
+all_of : (queued : List Message) (sent : List Sending) (same : SaysSame (λ sending. sending) queued sent) (stream index count : ℕ) (places : List ℕ) (asks : ℕ → Bool) (asked : ℕ → Type 0) → ((other : ℕ) → asks other ≡ true → asked other)
+    → directions.HaveAllBefore asks queued stream (record { index = index; place = count; is_whole = true }) places → AreReadBefore asked sent stream index count places
+all_of queued sent same stream index count places asks asked calls all free place on below one =
+    all (λ p from to mine. (let was = sent_on queued sent same stream p mine in was.limits ∙ free p from to was.on)) place (ordered_on queued sent same stream place on) below (λ other from to. unasked other (asks other) refl from to)
+  where
+    unasked : (other : ℕ) (b : Bool) → asks other ≡ b → place < other → other < count → b ≡ false
+    unasked other false is from to = refl
+    unasked other true is from to = absurd (one other (calls other is) from to)
 
 module _ (reset_calls : ResetCalls) (mine theirs : Options) (turns others : List Transition) (h : Stand reset_calls mine theirs turns others) (few : length (queued_of mine turns) < 2 ^ 64)
     (went : (tag : ℕ) → chunks_before (h.ends.former tag) (packets_of turns) + chunks_to (h.ends.latest tag) (packets_of turns) < 2 ^ 30)
@@ -97,9 +112,9 @@ module _ (reset_calls : ResetCalls) (mine theirs : Options) (turns others : List
     Delivered read = IsDeliveredByEpoch (HasReset mine turns) (ReportsPeerReset theirs others tag) sent read
 
     -- what is performed under a tag of the sender
-    cuts : (key : ℕ) → HadBoth (recorded_past turns) key tag → AreCutAsAsked false reset_calls.asks (h.ends.gets key).performed (queued_of mine turns) (with_key key (reading_of theirs others).reads)
+    cuts : (key : ℕ) → HadBoth (recorded_past turns) key tag → AreCutAsAsked false reset_calls.asks (full_asks reset_calls.empties theirs.max_receiver_window_buffer_size) (h.ends.gets key).performed (queued_of mine turns) (with_key key (reading_of theirs others).reads)
     cuts key both =
-        subst (λ (calls : ResetCalls). AreCutAsAsked false calls.asks (h.ends.gets key).performed (queued_of mine turns) (with_key key (reading_of theirs others).reads)) h.is
+        subst (λ (calls : ResetCalls). AreCutAsAsked false calls.asks (full_asks calls.empties theirs.max_receiver_window_buffer_size) (h.ends.gets key).performed (queued_of mine turns) (with_key key (reading_of theirs others).reads)) h.is
         (ends_cut_as_asked theirs h.ends (endpoint_after mine turns) (queued_of mine turns) (recorded_past turns) (packets_of turns) (endpoint_after theirs others) (recorded_past others) (reading_of theirs others) h.between
         few went key anew (both.link, both.held, both.tag_is, interleaves both.link both.held both.peer_is))
       where
@@ -144,15 +159,19 @@ module _ (reset_calls : ResetCalls) (mine theirs : Options) (turns others : List
   -- ---- without gaps
 
   module _ (sent : List Sending) (same : SaysSame (λ sending. sending) (queued_of mine turns) sent) (asked : (stream count : ℕ) → reset_calls.asks stream count ≡ true → HasReset mine turns stream count)
-      (tag : ℕ) (only : HasOneTag (recorded_past turns)) (interleaves : Interleaves (recorded_past turns) tag) where
+      (tag : ℕ) (only : HasOneTag (recorded_past turns)) (interleaves : Interleaves (recorded_past turns) tag)
+      (empties : (stream count : ℕ) → ResetsWithNoneWaiting mine turns stream count → reset_calls.empties stream count ≡ true) (window : nat_le theirs.max_receiver_window_buffer_size (2 ^ 63) ≡ true) where
     abbrev InEpochs : List MessageContent → Type 0
-    InEpochs read = IsDeliveredInEpochs (HasReset mine turns) (ReportsPeerReset theirs others tag) sent read
+    InEpochs read = IsDeliveredInEpochs (HasReset mine turns) (ResetsWithNoneWaiting mine turns) (ReportsPeerReset theirs others tag) sent read
 
-    whole_cuts : (key : ℕ) → HadBoth (recorded_past turns) key tag → AreCutAsAsked true reset_calls.asks (h.ends.gets key).performed (queued_of mine turns) (with_key key (reading_of theirs others).reads)
+    whole_cuts : (key : ℕ) → HadBoth (recorded_past turns) key tag → AreCutAsAsked true reset_calls.asks (full_asks reset_calls.empties theirs.max_receiver_window_buffer_size) (h.ends.gets key).performed (queued_of mine turns) (with_key key (reading_of theirs others).reads)
     whole_cuts key both =
-        subst (λ (calls : ResetCalls). AreCutAsAsked true calls.asks (h.ends.gets key).performed (queued_of mine turns) (with_key key (reading_of theirs others).reads)) h.is
+        subst (λ (calls : ResetCalls). AreCutAsAsked true calls.asks (full_asks calls.empties theirs.max_receiver_window_buffer_size) (h.ends.gets key).performed (queued_of mine turns) (with_key key (reading_of theirs others).reads)) h.is
         (ends_cut_without_gaps theirs h.ends (endpoint_after mine turns) (queued_of mine turns) (recorded_past turns) (packets_of turns) (endpoint_after theirs others) (recorded_past others) (reading_of theirs others) h.between
         few went key (λ link has. only link both.link has both.held ∙ both.tag_is) (both.link, both.held, both.tag_is, interleaves both.link both.held both.peer_is))
+
+    full : (stream count : ℕ) → reset_calls.empties stream count ≡ true → full_asks reset_calls.empties theirs.max_receiver_window_buffer_size stream count ≡ true
+    full stream count is = ap (λ (b : Bool). b && nat_le theirs.max_receiver_window_buffer_size (2 ^ 63)) is ∙ window
 
     none_in_epochs : InEpochs []
     none_in_epochs =
@@ -160,8 +179,14 @@ module _ (reset_calls : ResetCalls) (mine theirs : Options) (turns others : List
           delivered = record { places = []; were_sent = tt; once = tt; in_order = λ stream. tt };
           epochs = λ streams index told stream names. (
               let p = told_performed tag streams index told in
-              let c = (whole_cuts p.key p.both).cut stream (record { streams = streams; index = index }) p.performed names in
-              record { split = record { count = c.place; ask = asked stream c.place c.asked; split = tt }; no_gap = λ earlier later has. absurd has }
+              let d = whole_cuts p.key p.both in
+              let c = d.cut stream (record { streams = streams; index = index }) p.performed names in
+              record {
+                split = record { count = c.place; ask = asked stream c.place c.asked; split = tt };
+                no_gap = λ earlier later has. absurd has;
+                all = λ empty low free place on below one. absurd (nothing_taken place index d.ordered.delivered.places low
+                    (all_of (queued_of mine turns) sent same stream index c.place d.ordered.delivered.places (reset_calls.asks stream) (HasReset mine turns stream) (asked stream) (c.all refl (full stream c.place (empties stream c.place empty)) (let none : index ≤ 0 = low in omega (arith, none))) free place on below one));
+              }
               );
           no_gap = λ stream earlier later has. absurd has;
         }
@@ -180,6 +205,7 @@ module _ (reset_calls : ResetCalls) (mine theirs : Options) (turns others : List
               record {
                 split = record { count = c.place; ask = asked stream c.place c.asked; split = split_of (queued_of mine turns) sent same stream index c.place d.ordered.delivered.places c.separates };
                 no_gap = no_gap_of (queued_of mine turns) sent same stream c.place d.ordered.delivered.places (reset_calls.asks stream) (HasReset mine turns stream) (asked stream) (c.no_gap refl);
+                all = λ empty low. all_of (queued_of mine turns) sent same stream index c.place d.ordered.delivered.places (reset_calls.asks stream) (HasReset mine turns stream) (asked stream) (c.all refl (full stream c.place (empties stream c.place empty)) low);
               }
               );
           no_gap = λ stream. no_gap_of (queued_of mine turns) sent same stream (length sent) d.ordered.delivered.places (reset_calls.asks stream) (HasReset mine turns stream) (asked stream)

@@ -110,6 +110,7 @@ fresh_waits mine =
           };
           kept = λ id is. absurd (cc);
           whole = record { each = λ id w is. absurd (cc); held = λ id is. absurd (cc); newest = λ id is. absurd (cc) };
+          rests = λ id none f at. absurd (cc);
         };
       };
     }
@@ -138,10 +139,10 @@ pub begun_queues : (e : Endpoint) (o : Outcome) (begun : BeginsAssociation e o) 
 begun_queues e o begun queued rules queues =
     elim begun.keeps [
       | inl is ↦
-          subst (λ (q : SendQueueState). QueueWaits queued q) (sym is.0) (numbered_hold queued begun.held.capabilities.message_interleaving e.queues.queue (λ id some. rules ∙ is.1) queues)
+          subst (λ (q : SendQueueState). QueueWaits queued q) (sym is.0) (numbered_hold queued begun.held.capabilities.message_interleaving begun.window e.queues.queue (λ id some. rules ∙ is.1) queues)
       | inr is ↦
           subst (λ (q : SendQueueState). QueueWaits queued q) (sym is)
-          (numbered_hold queued begun.held.capabilities.message_interleaving (queue_restarted e.queues.queue) (λ id some. absurd (none_restarted e.queues.queue id some))
+          (numbered_hold queued begun.held.capabilities.message_interleaving begun.window (queue_restarted e.queues.queue) (λ id some. absurd (none_restarted e.queues.queue id some))
           (restarted_hold queued (new_history queues.floors) e.queues.queue queues.holds))
     ]
 
@@ -149,8 +150,8 @@ begun_queues e o begun queued rules queues =
 pub begun_kind : (e : Endpoint) (o : Outcome) (begun : BeginsAssociation e o) → begun.queue.is_interleaved ≡ begun.held.capabilities.message_interleaving
 begun_kind e o begun =
     elim begun.keeps [
-      | inl is ↦ ap (λ (q : SendQueueState). q.is_interleaved) is.0 ∙ numbered_kind begun.held.capabilities.message_interleaving e.queues.queue
-      | inr is ↦ ap (λ (q : SendQueueState). q.is_interleaved) is ∙ numbered_kind begun.held.capabilities.message_interleaving (queue_restarted e.queues.queue)
+      | inl is ↦ ap (λ (q : SendQueueState). q.is_interleaved) is.0 ∙ numbered_kind begun.held.capabilities.message_interleaving begun.window e.queues.queue
+      | inr is ↦ ap (λ (q : SendQueueState). q.is_interleaved) is ∙ numbered_kind begun.held.capabilities.message_interleaving begun.window (queue_restarted e.queues.queue)
     ]
 
 -- ---- with number 0 on each stream
@@ -176,9 +177,9 @@ renamed_open id (stream ∷ streams) = go (stream.id == id) (renamed_open id str
     go false rest = rest
 
 -- A queue whose numbers start again begins so.
-restarted_at_zero : (enabled : Bool) (queue : SendQueueState) → BeginsAtZero (numbered_for enabled (queue_restarted queue))
-restarted_at_zero enabled queue =
-    subst BeginsAtZero (sym (numbered_idle enabled (queue_restarted queue) (restarted_idle queue)))
+restarted_at_zero : (enabled : Bool) (window : ℕ) (queue : SendQueueState) → BeginsAtZero (numbered_for enabled window (queue_restarted queue))
+restarted_at_zero enabled window queue =
+    subst BeginsAtZero (sym (numbered_idle enabled window (queue_restarted queue) (restarted_idle queue)))
     (record {
       rest = λ id waiting some. absurd (none_restarted queue id some);
       zero = λ id. ap (λ (p : ℕ × ℕ). p.1 % 2 ^ 32) (renamed_zero id (put_back queue).streams);
@@ -191,5 +192,5 @@ pub begun_at_zero : (e : Endpoint) (o : Outcome) (begun : BeginsAssociation e o)
 begun_at_zero e o begun follows =
     elim begun.keeps [
       | inl is ↦ absurd (let clash : true ≡ false = sym follows ∙ is.1 in cc)
-      | inr is ↦ subst BeginsAtZero (sym is) (restarted_at_zero begun.held.capabilities.message_interleaving e.queues.queue)
+      | inr is ↦ subst BeginsAtZero (sym is) (restarted_at_zero begun.held.capabilities.message_interleaving begun.window e.queues.queue)
     ]

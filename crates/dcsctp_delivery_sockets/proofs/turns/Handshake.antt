@@ -72,7 +72,8 @@ unasked_by e mine held echoed cookie transfer is lasts own there =
 
 -- What waits to be sent is kept, or starts again.
 pub kept_or_anew : (b : Bool) (e : Endpoint) (cookie : Cookie)
-    → ((queue_if_kept b e cookie ≡ numbered_for (interleaves e cookie) e.queues.queue) × (b ≡ false)) ⊎ (queue_if_kept b e cookie ≡ numbered_for (interleaves e cookie) (queue_restarted e.queues.queue))
+    → ((queue_if_kept b e cookie ≡ numbered_for (interleaves e cookie) (window_by_cookie e.options cookie) e.queues.queue) × (b ≡ false))
+    ⊎ (queue_if_kept b e cookie ≡ numbered_for (interleaves e cookie) (window_by_cookie e.options cookie) (queue_restarted e.queues.queue))
 kept_or_anew true e cookie = inr refl
 kept_or_anew false e cookie = inl (refl, refl)
 
@@ -148,7 +149,7 @@ module _ (came : Option Content) (calm : IsCalm came) (to : ℕ) where
         window = theirs.window;
         later = _;
         noted = refl;
-        queue = numbered_for (held_by_init_ack e.options my theirs).capabilities.message_interleaving (queue_restarted e.queues.queue);
+        queue = numbered_for (held_by_init_ack e.options my theirs).capabilities.message_interleaving theirs.window (queue_restarted e.queues.queue);
         keeps = inr refl;
       }) opening (echoed_link (fits awaiting (echo_emission theirs.pair.tag cookie)) awaiting (U64 word ∷ []) theirs.pair.tag cookie answers allowed) (λ queued. refl) (λ read. refl) (reset_again None) (echoed_makes (fits awaiting (echo_emission theirs.pair.tag cookie)) awaiting (U64 word ∷ []) theirs.pair.tag cookie answers refl allowed)
 
@@ -191,7 +192,7 @@ module _ (came : Option Content) (calm : IsCalm came) (to : ℕ) where
         window = window_by_cookie e.options cookie;
         later = _;
         noted = refl;
-        queue = numbered_for (interleaves e cookie) (queue_restarted e.queues.queue);
+        queue = numbered_for (interleaves e cookie) (window_by_cookie e.options cookie) (queue_restarted e.queues.queue);
         keeps = inr refl;
       }) opening (flush_link (endpoint_established e cookie (queues_begun e cookie) tie) (cookie_ack_emission (held_by_cookie e.options cookie) cookie) answers allowed) (λ queued. refl) (λ read. refl) (reset_again None) (makes_behind came cookie.addressee.tag (inside (endpoint_established e cookie (queues_begun e cookie) tie)) (U64 tie ∷ []) told (flush_of (endpoint_established e cookie (queues_begun e cookie) tie) (cookie_ack_emission (held_by_cookie e.options cookie) cookie) answers) none
       (flushed came cookie.addressee.tag (endpoint_established e cookie (queues_begun e cookie) tie) (cookie_ack_emission (held_by_cookie e.options cookie) cookie) answers refl refl (tt, tt) tt (tt, tt) (tt, tt) allowed))

@@ -12,10 +12,10 @@ use Rattle.dcsctp_spec_lemmas.specs.spec.endpoint.Endpoint.{Endpoint}
 use Rattle.dcsctp_spec_lemmas.specs.spec.endpoint.Outcome.{Outcome}
 use Rattle.dcsctp_spec_lemmas.specs.spec.queues.OwnResets.{count_under_way}
 use Rattle.dcsctp_spec_lemmas.specs.spec.queues.SendQueue.{SendQueueState, queue_restarted, renumbered_under_way, is_other, numbered_for}
-use Rattle.dcsctp_spec_lemmas.specs.spec.queues.Sending.{may_be_abandoned, is_kept_whole}
+use Rattle.dcsctp_spec_lemmas.specs.spec.queues.Sending.{may_be_abandoned}
 use Rattle.dcsctp_delivery_directions.specs.sending.ChunkCounts.{going}
 use Rattle.dcsctp_delivery_directions.specs.sending.Log.{Message, History, new_history}
-use Rattle.dcsctp_delivery_directions.specs.sending.Numbers.{stream_named}
+use Rattle.dcsctp_delivery_directions.specs.sending.Numbers.{stream_named, is_always_whole}
 use Rattle.dcsctp_delivery_directions.specs.sending.Pieces.{Going}
 use Rattle.dcsctp_delivery_directions.specs.sending.Queueing.{QueueHolds, QueueWaits}
 use Rattle.dcsctp_delivery_directions.proofs.sending.StreamsNamed.{found_at}
@@ -77,7 +77,7 @@ one_going id (s ∷ streams) distinct ours = go (is_some s.under_way) refl (one_
 
 -- ---- where streams take no turns
 
-all_whole : (queue : SendQueueState) (w : Waiting) → queue.takes_turns ≡ false → is_kept_whole w queue ≡ true
+all_whole : (queue : SendQueueState) (w : Waiting) → queue.takes_turns ≡ false → is_always_whole w queue ≡ true
 all_whole queue w none = ap (λ (b : Bool). may_be_abandoned w || not (queue.is_interleaved && b)) none ∙ go queue.is_interleaved (may_be_abandoned w)
   where
     go : (a b : Bool) → (b || not (a && false)) ≡ true
@@ -123,8 +123,8 @@ named_idle id (s ∷ streams) idle =
 
 -- ---- whichever numbers count
 
-numbered_going : (enabled : Bool) (queue : SendQueueState) → going (numbered_for enabled queue).streams ≡ going queue.streams
-numbered_going enabled queue = go (is_other queue.is_interleaved enabled)
+numbered_going : (enabled : Bool) (window : ℕ) (queue : SendQueueState) → going (numbered_for enabled window queue).streams ≡ going queue.streams
+numbered_going enabled window queue = go (is_other queue.is_interleaved enabled)
   where
     one : (s : Stream) (u : Option UnderWay) → s.under_way ≡ u → is_some (renumbered_under_way enabled s).under_way ≡ is_some s.under_way
     one s None is = rw is refl
@@ -142,8 +142,8 @@ renumbered_same enabled (s ∷ streams) idle = ap (λ (x : Stream). x ∷ map (r
     one : (x : Stream) → x.under_way ≡ None → renumbered_under_way enabled x ≡ x
     one x is = rw is refl
 
-pub numbered_idle : (enabled : Bool) (queue : SendQueueState) → AreIdle queue.streams → numbered_for enabled queue ≡ record queue { is_interleaved = enabled }
-numbered_idle enabled queue idle = ap (λ (l : List Stream). record queue { is_interleaved = enabled; streams = l }) (go (is_other queue.is_interleaved enabled))
+pub numbered_idle : (enabled : Bool) (window : ℕ) (queue : SendQueueState) → AreIdle queue.streams → numbered_for enabled window queue ≡ record queue { is_interleaved = enabled; window = window }
+numbered_idle enabled window queue idle = ap (λ (l : List Stream). record queue { is_interleaved = enabled; window = window; streams = l }) (go (is_other queue.is_interleaved enabled))
   where
     go : (b : Bool) → (if b then map (renumbered_under_way enabled) queue.streams else queue.streams) ≡ queue.streams
     go true = renumbered_same enabled queue.streams idle
@@ -153,12 +153,12 @@ pub begun_rests : (e : Endpoint) (o : Outcome) (begun : BeginsAssociation e o) (
 begun_rests e o begun queued rules waits =
     elim begun.keeps [
       | inl is ↦
-          (let same : going begun.queue.streams ≡ going e.queues.queue.streams = ap (λ (q : SendQueueState). going q.streams) is.0 ∙ numbered_going begun.held.capabilities.message_interleaving e.queues.queue in
+          (let same : going begun.queue.streams ≡ going e.queues.queue.streams = ap (λ (q : SendQueueState). going q.streams) is.0 ∙ numbered_going begun.held.capabilities.message_interleaving begun.window e.queues.queue in
           let one = rests_held queued (new_history waits.floors) e.queues.queue (rules ∙ is.1) waits.holds in
           omega (arith, same, one))
       | inr is ↦
           (let same : going begun.queue.streams ≡ going (queue_restarted e.queues.queue).streams =
-          ap (λ (q : SendQueueState). going q.streams) is ∙ numbered_going begun.held.capabilities.message_interleaving (queue_restarted e.queues.queue) in
+          ap (λ (q : SendQueueState). going q.streams) is ∙ numbered_going begun.held.capabilities.message_interleaving begun.window (queue_restarted e.queues.queue) in
           let none = none_going (queue_restarted e.queues.queue).streams (restarted_idle e.queues.queue) in
           omega (arith, same, none))
     ]

@@ -90,7 +90,7 @@ module _ (came : Option Content) (opening : IsOpening came) (e : Endpoint) where
         window = theirs.window;
         later = _;
         noted = refl;
-        queue = numbered_for (held_by_init_ack e.options my theirs).capabilities.message_interleaving (queue_restarted e.queues.queue);
+        queue = numbered_for (held_by_init_ack e.options my theirs).capabilities.message_interleaving theirs.window (queue_restarted e.queues.queue);
         keeps = inr refl;
       }) opening (echoed_link is_short awaiting (U64 word ∷ []) theirs.pair.tag cookie answers allowed) (record { none = last.none; waits = last.waits; renews = last.renews })
 
@@ -104,7 +104,8 @@ module _ (came : Option Content) (opening : IsOpening came) (e : Endpoint) where
   -- ---- COOKIE ECHO
 
   established_calm : (cookie : Cookie) (queue : SendQueueState) (tie : ℕ) (told : List (Event Emission)) (answers : List Answer)
-      → ((queue ≡ numbered_for (interleaves e cookie) e.queues.queue) × (e.options.follow_rfc ≡ false)) ⊎ (queue ≡ numbered_for (interleaves e cookie) (queue_restarted e.queues.queue)) → EstablishAnswers e cookie (queues_with e cookie queue) tie answers
+      → ((queue ≡ numbered_for (interleaves e cookie) (window_by_cookie e.options cookie) e.queues.queue) × (e.options.follow_rfc ≡ false))
+      ⊎ (queue ≡ numbered_for (interleaves e cookie) (window_by_cookie e.options cookie) (queue_restarted e.queues.queue)) → EstablishAnswers e cookie (queues_with e cookie queue) tie answers
       → CalmTurns came e (establish_with_flush (flush_answered answers) e cookie (queues_with e cookie queue) tie told)
   established_calm cookie queue tie told answers keeps allowed =
       let base : Endpoint = endpoint_established e cookie (queues_with e cookie queue) tie in
@@ -121,7 +122,7 @@ module _ (came : Option Content) (opening : IsOpening came) (e : Endpoint) where
 
   anew_calm : (cookie : Cookie) (tie : ℕ) (told : List (Event Emission)) (answers : List Answer) → EstablishAnswers e cookie (queues_begun e cookie) tie answers
       → CalmTurns came e (establish_with_flush (flush_answered answers) e cookie (queues_begun e cookie) tie told)
-  anew_calm cookie tie told answers allowed = established_calm cookie (numbered_for (interleaves e cookie) (queue_restarted e.queues.queue)) tie told answers (inr refl) allowed
+  anew_calm cookie tie told answers allowed = established_calm cookie (numbered_for (interleaves e cookie) (window_by_cookie e.options cookie) (queue_restarted e.queues.queue)) tie told answers (inr refl) allowed
 
   -- What was sent in the one association goes on in the other.
   other_calm : (mine : Pair) (held : Held) (echoed : List ℕ) (cookie : Cookie) (tie : ℕ) (transfer : Transfer) (answers : List Answer) → e.core ≡ cookie_echoed mine held echoed → e.queues.transfer ≡ Some transfer → outlasts e mine held cookie transfer ≡ true

@@ -246,8 +246,8 @@ pub fresh_is_at_zero : FreshIsAtZero
 fresh_is_at_zero options = record { idle = tt; ordered = λ id. refl; unordered = λ id. refl; unpaused = λ id. refl }
 
 -- How messages are numbered may change.
-zero_numbered : (enabled : Bool) (queue : SendQueueState) → IsAtZero queue → IsAtZero (numbered_for enabled queue)
-zero_numbered enabled queue zero = subst IsAtZero (sym (numbered_idle enabled queue zero.idle)) (record { idle = zero.idle; ordered = zero.ordered; unordered = zero.unordered; unpaused = zero.unpaused })
+zero_numbered : (enabled : Bool) (window : ℕ) (queue : SendQueueState) → IsAtZero queue → IsAtZero (numbered_for enabled window queue)
+zero_numbered enabled window queue zero = subst IsAtZero (sym (numbered_idle enabled window queue zero.idle)) (record { idle = zero.idle; ordered = zero.ordered; unordered = zero.unordered; unpaused = zero.unpaused })
 
 -- The numbers may start again, and then no stream is to be reset.
 StartsAgain : Stream → Stream → Type 0
@@ -264,8 +264,8 @@ zero_restarted queue = record { idle = restarted_idle queue; ordered = λ id. (a
 pub begun_is_at_zero : (e : Endpoint) (o : Outcome) (begun : BeginsAssociation e o) → IsAtZero e.queues.queue → IsAtZero begun.queue
 begun_is_at_zero e o begun zero =
     elim begun.keeps [
-      | inl is ↦ subst IsAtZero (sym is.0) (zero_numbered begun.held.capabilities.message_interleaving e.queues.queue zero)
-      | inr is ↦ subst IsAtZero (sym is) (zero_numbered begun.held.capabilities.message_interleaving (queue_restarted e.queues.queue) (zero_restarted e.queues.queue))
+      | inl is ↦ subst IsAtZero (sym is.0) (zero_numbered begun.held.capabilities.message_interleaving begun.window e.queues.queue zero)
+      | inr is ↦ subst IsAtZero (sym is) (zero_numbered begun.held.capabilities.message_interleaving begun.window (queue_restarted e.queues.queue) (zero_restarted e.queues.queue))
     ]
 
 -- Such a queue begins with number 0 on each stream.
@@ -284,9 +284,9 @@ unbegun_begins_at_zero e o begun zero = zero_begins begun.queue (begun_is_at_zer
 -- ---- what waits is kept
 
 module _ (id : ℕ) (queued : List Message) where
-  all_numbered : (enabled : Bool) (queue : SendQueueState) → IsAtZero queue → AllWaitOn id queued queue.streams → AllWaitOn id queued (numbered_for enabled queue).streams
-  all_numbered enabled queue zero all =
-      subst (λ (q : SendQueueState). AllWaitOn id queued q.streams) (sym (numbered_idle enabled queue zero.idle)) all
+  all_numbered : (enabled : Bool) (window : ℕ) (queue : SendQueueState) → IsAtZero queue → AllWaitOn id queued queue.streams → AllWaitOn id queued (numbered_for enabled window queue).streams
+  all_numbered enabled window queue zero all =
+      subst (λ (q : SendQueueState). AllWaitOn id queued q.streams) (sym (numbered_idle enabled window queue zero.idle)) all
 
   restarted_open : (streams : List Stream) → IsOpenOn id (map renumbered_stream streams)
   restarted_open [] = tt
@@ -305,8 +305,8 @@ unbegun_begins_waiting e o begun id queued zero all =
     elim begun.keeps [
       | inl is ↦
           subst (λ (q : SendQueueState). AllWaitOn id queued q.streams) (sym is.0)
-          (all_numbered id queued begun.held.capabilities.message_interleaving e.queues.queue zero all)
+          (all_numbered id queued begun.held.capabilities.message_interleaving begun.window e.queues.queue zero all)
       | inr is ↦
           subst (λ (q : SendQueueState). AllWaitOn id queued q.streams) (sym is)
-          (all_numbered id queued begun.held.capabilities.message_interleaving (queue_restarted e.queues.queue) (zero_restarted e.queues.queue) (all_restarted id queued e.queues.queue all))
+          (all_numbered id queued begun.held.capabilities.message_interleaving begun.window (queue_restarted e.queues.queue) (zero_restarted e.queues.queue) (all_restarted id queued e.queues.queue all))
     ]

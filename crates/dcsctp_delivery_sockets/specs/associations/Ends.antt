@@ -74,10 +74,11 @@ abbrev pub new_end : Options → ℕ → ReceivingEnd
 new_end options first = record { first_tsn = first; tracker = new_tracker options first; reassembly = new_reassembly options.max_receiver_window_buffer_size (part_overhead options); read = []; performed = [] }
 
 -- Which streams does the user of the sender never reset? And does it reset a stream when so many messages were queued, by a call that
--- isn't refused?
+-- isn't refused? Does nothing of the stream wait at each of these calls?
 pub record ResetCalls : Type 0 where
   pub never : ℕ → Bool
   pub asks : ℕ → ℕ → Bool
+  pub empties : ℕ → ℕ → Bool
 
 -- For each tag of the sender both ends, and its first TSN; the tag of its peer, and that of the peer before.
 pub record Ends : Type 0 where
@@ -169,6 +170,7 @@ pub record KeepsThese (calls : ResetCalls) (beginning : Beginning) : Type 0 wher
 pub record KeepsOnlyThese (calls : ResetCalls) (beginning : Beginning) : Type 0 where
   pub dropped : (id : ℕ) → calls.never id ≡ false → beginning.keeps id ≡ false
   pub asks : beginning.asks ≡ calls.asks
+  pub empties : beginning.empties ≡ calls.empties
 
 -- Nothing was sent at this end yet.
 pub record Awaits (sends : SendingEnd) : Type 0 where
@@ -324,7 +326,7 @@ unbegun_end options =
       acknowledged = 0;
       sent = [];
       asking = nothing_asked;
-      beginning = record { from_zero = true; has_all = true; keeps = λ id. false; asks = λ id count. false };
+      beginning = record { from_zero = true; has_all = true; keeps = λ id. false; asks = λ id count. false; empties = λ id count. false };
     }
 
 -- What was received from a tag whose associations don't cross needs no sender.

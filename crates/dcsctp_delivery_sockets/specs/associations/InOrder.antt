@@ -1,6 +1,6 @@
 -- What a user reads in one association comes in the order in which it was queued, stream by stream,
 -- and without gaps where nothing may be left out (RFC 9260, section 6.6).
-use Rattle.std.specs.Prelude.{◌≡◌, ◌⊎◌, ◌<◌, ◌+◌, ◌^◌, ℕ, Bool, true, false, Some, List, [], length}
+use Rattle.std.specs.Prelude.{◌≡◌, ◌⊎◌, ◌<◌, ◌+◌, ◌^◌, ℕ, Bool, true, false, Some, List, [], length, ◌&&◌, nat_le}
 use Rattle.dcsctp_spec_lemmas.specs.types.declared.options.Options.{Options}
 use Rattle.dcsctp_spec_lemmas.specs.spec.endpoint.Endpoint.{Endpoint}
 use Rattle.dcsctp_spec_lemmas.specs.spec.Packet.{Emission}
@@ -34,20 +34,24 @@ EndsDeliverInOrder =
     → Between options ends (sending_side e queued past packets) (receiving_side other their_past reading) → length queued < 2 ^ 64 → ((tag : ℕ) → chunks_before (ends.former tag) packets + chunks_to (ends.latest tag) packets < 2 ^ 30)
     → (tag : ℕ) → NumbersFromZero e past tag → InterleavesUnder past tag → AreDeliveredInOrder queued (with_key tag reading.reads)
 
+-- when nothing of a stream waits as its reset is asked for, if the receive window is of 2^63 bytes or less
+abbrev pub full_asks : (ℕ → ℕ → Bool) → ℕ → ℕ → ℕ → Bool
+full_asks empties size id count = empties id count && nat_le size (2 ^ 63)
+
 -- And each reset of streams that the receiver has performed was asked for by the sender's user: it separates what was queued before
 -- from what was queued since.
 abbrev pub EndsCutAsAsked : Type 0
 EndsCutAsAsked =
     (options : Options) (ends : Ends) (e : Endpoint) (queued : List Message) (past : List Effect) (packets : List Emission) (other : Endpoint) (their_past : List Effect) (reading : Reading)
     → Between options ends (sending_side e queued past packets) (receiving_side other their_past reading) → length queued < 2 ^ 64 → ((tag : ℕ) → chunks_before (ends.former tag) packets + chunks_to (ends.latest tag) packets < 2 ^ 30)
-    → (tag : ℕ) → NumbersFromZero e past tag → InterleavesUnder past tag → AreCutAsAsked false ends.calls.asks (ends.gets tag).performed queued (with_key tag reading.reads)
+    → (tag : ℕ) → NumbersFromZero e past tag → InterleavesUnder past tag → AreCutAsAsked false ends.calls.asks (full_asks ends.calls.empties options.max_receiver_window_buffer_size) (ends.gets tag).performed queued (with_key tag reading.reads)
 
 -- Where the sender has had no other own tag, no message is left out of an epoch before another, unless one of them may be abandoned.
 abbrev pub EndsCutWithoutGaps : Type 0
 EndsCutWithoutGaps =
     (options : Options) (ends : Ends) (e : Endpoint) (queued : List Message) (past : List Effect) (packets : List Emission) (other : Endpoint) (their_past : List Effect) (reading : Reading)
     → Between options ends (sending_side e queued past packets) (receiving_side other their_past reading) → length queued < 2 ^ 64 → ((tag : ℕ) → chunks_before (ends.former tag) packets + chunks_to (ends.latest tag) packets < 2 ^ 30)
-    → (tag : ℕ) → IsOnlyOwn past tag → InterleavesUnder past tag → AreCutAsAsked true ends.calls.asks (ends.gets tag).performed queued (with_key tag reading.reads)
+    → (tag : ℕ) → IsOnlyOwn past tag → InterleavesUnder past tag → AreCutAsAsked true ends.calls.asks (full_asks ends.calls.empties options.max_receiver_window_buffer_size) (ends.gets tag).performed queued (with_key tag reading.reads)
 
 -- Also where they don't it holds, if besides no message may be abandoned, or few ordered ones were queued on each stream; and no
 -- request to reset streams was sent there.

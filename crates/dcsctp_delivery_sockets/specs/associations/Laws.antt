@@ -15,6 +15,7 @@ use Rattle.dcsctp_spec_lemmas.specs.spec.association.Effect.{AssociationIdentity
 use Rattle.dcsctp_spec_lemmas.specs.spec.queues.Transfer.{Transfer}
 use Rattle.dcsctp_spec_lemmas.specs.spec.endpoint.BegunResets.{stream_field}
 use Rattle.dcsctp_delivery_directions.specs.sending.Log.{Message}
+use Rattle.dcsctp_delivery_directions.specs.sending.Numbers.{stream_named}
 use Rattle.dcsctp_delivery_directions.specs.sending.Places as places
 use Rattle.dcsctp_delivery_directions.specs.sending.ChunkCounts.{chunks_to}
 use Rattle.dcsctp_delivery_directions.specs.directions.Directions.{AreDelivered}
@@ -42,6 +43,7 @@ AsksLittle packets = (tag : ℕ) → requests_to tag packets < 2 ^ 32 - 1
 pub record ResetsAs (calls : ResetCalls) (count : ℕ) (e : Endpoint) (input : Input) : Type 0 where
   pub never : (id : ℕ) → calls.never id ≡ true → resets_stream id input ≡ false
   pub asks : reset_refusal e ≡ None → (id : ℕ) → resets_stream id input ≡ true → calls.asks id count ≡ true
+  pub empty : reset_refusal e ≡ None → (id : ℕ) → resets_stream id input ≡ true → calls.empties id count ≡ true → (stream_named id e.queues.queue.streams).messages ≡ []
 
 -- The user is told of a reset of the peer only where one is performed.
 abbrev pub TellsPerformed : Outcome → Type 0

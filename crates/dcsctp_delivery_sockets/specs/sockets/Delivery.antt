@@ -20,7 +20,7 @@ use Rattle.dcsctp_delivery_directions.specs.sending.Queueing.{SettingFits}
 use Rattle.dcsctp_delivery_directions.specs.directions.Requests.{requests_to}
 use Rattle.dcsctp_delivery_sockets.specs.turns.Runs.{RefusesNone}
 use Rattle.dcsctp_delivery_sockets.specs.associations.InOrder.{Interleaves, AreThrough}
-use Rattle.dcsctp_delivery_sockets.specs.sockets.Epochs.{HasReset, ReportsPeerReset, IsDeliveredByEpoch, IsDeliveredInEpochs}
+use Rattle.dcsctp_delivery_sockets.specs.sockets.Epochs.{HasReset, ReportsPeerReset, IsDeliveredByEpoch, IsDeliveredInEpochs, ResetsWithNoneWaiting}
 use Rattle.dcsctp_delivery_sockets.specs.sockets.Ordered.{HasOneTag, StartsAtZero, IsDeliveredOn, AllowsOrder, AllowsNoGaps, IsDeliveredInOrder, IsDeliveredWithoutGaps, IsReliable, IsDeliveredByStream, IsDeliveredAllOn, read_under}
 use Rattle.dcsctp_delivery_sockets.specs.sockets.UserMessages.{messages_of_turns, sendings_of_turns, read_of, IsDelivered}
 
@@ -182,7 +182,7 @@ pub record Delivers (options : Both Options) (turns : Both (List Transition)) (s
       → IsDeliveredByEpoch (HasReset (of_other side options) (of_other side turns)) (ReportsPeerReset (of_side side options) (of_side side turns) tag)
       (sendings_of_turns (fresh_endpoint (of_other side options)) (of_other side turns)) (read_under tag (of_side side options) (of_side side turns))
   pub in_epochs : (tag : ℕ) → HasOneTag (recorded_past (of_other side turns)) → Interleaves (recorded_past (of_other side turns)) tag
-      → IsDeliveredInEpochs (HasReset (of_other side options) (of_other side turns)) (ReportsPeerReset (of_side side options) (of_side side turns) tag)
+      → IsDeliveredInEpochs (HasReset (of_other side options) (of_other side turns)) (ResetsWithNoneWaiting (of_other side options) (of_other side turns)) (ReportsPeerReset (of_side side options) (of_side side turns) tag)
       (sendings_of_turns (fresh_endpoint (of_other side options)) (of_other side turns)) (read_under tag (of_side side options) (of_side side turns))
 
 -- So it is at the end of a run that is honest, in which no tag was drawn twice, each served one association or two of which the one

@@ -1,7 +1,7 @@
 -- What a user reads of a stream before and after each reset of it (RFC 6525, sections 5.1.2 and 5.2.2), by
 -- what two users see: the messages and the calls of `reset_streams` of the one, and what the other reads and
 -- is told of.
-use Rattle.std.specs.Prelude.{◌≡◌, ◌+◌, ◌<◌, ◌≤◌, ℕ, zero, suc, true, false, None, List, [], ◌∷◌, ◌++◌, length}
+use Rattle.std.specs.Prelude.{◌≡◌, ◌+◌, ◌<◌, ◌≤◌, ℕ, zero, suc, true, false, None, List, [], ◌∷◌, ◌++◌, length, take}
 use Rattle.dcsctp_spec_lemmas.specs.types.declared.options.Options.{Options}
 use Rattle.dcsctp_spec_lemmas.specs.spec.endpoint.CallTurns.{Transition}
 use Rattle.dcsctp_spec_lemmas.specs.spec.endpoint.DataOutcomes.{ready_or_left}
@@ -12,6 +12,7 @@ use Rattle.dcsctp_spec_lemmas.specs.spec.endpoint.PreparedResets.{reset_refusal}
 use Rattle.dcsctp_spec_lemmas.specs.spec.queues.Reassembly.{names_stream}
 use Rattle.dcsctp_spec_lemmas.specs.types.queues.Messages.{MessageContent}
 use Rattle.dcsctp_spec_runs.specs.Sockets.{endpoint_after}
+use Rattle.dcsctp_delivery_directions.specs.sending.Numbers.{stream_named}
 use Rattle.dcsctp_delivery_directions.specs.sending.Places.{HasEntry}
 use Rattle.dcsctp_delivery_sockets.specs.turns.Actions.{resets_stream}
 use Rattle.dcsctp_delivery_sockets.specs.associations.Reads.{nothing_read}
@@ -88,14 +89,26 @@ HaveNoGapBefore asked sent stream end places =
     (earlier later : ℕ) → HasEntry later places → IsOrderedMessage sent stream later → IsOrderedMessage sent stream earlier → earlier < later → later < end → AreSentInOneEpoch asked earlier later → AreSentWithoutLimits sent stream earlier end
     → HasEntry earlier places
 
--- The reset splits them where it was asked for, and before it no epoch has a gap.
-pub record IsSplitWithoutGaps (asked : ℕ → Type 0) (sent : List Sending) (stream index : ℕ) (places : List ℕ) : Type 0 where
+-- Of the ordered messages of the stream that were sent before the reset was asked for, and since one was before, each is among the first
+-- ones, up to this index, if none of the stream before has limits.
+abbrev pub AreReadBefore : (ℕ → Type 0) → List Sending → ℕ → ℕ → ℕ → List ℕ → Type 0
+AreReadBefore asked sent stream index count places =
+    AreSentWithoutLimits sent stream 0 count → (place : ℕ) → IsOrderedMessage sent stream place → place < count → ((other : ℕ) → asked other → place < other → other < count → ⊥) → HasEntry place (take index places)
+
+-- At each call by which the user resets the stream, once it has sent so many messages, none of the stream waits.
+abbrev pub ResetsWithNoneWaiting : Options → List Transition → ℕ → ℕ → Type 0
+ResetsWithNoneWaiting options turns stream sent = (reset : HasReset options turns stream sent) → (stream_named stream (endpoint_after options reset.earlier).queues.queue.streams).messages ≡ []
+
+-- The reset splits them where it was asked for, and before it no epoch has a gap. If none waited then, its epoch is read whole before
+-- the report, or can be.
+pub record IsSplitWithoutGaps (asked empty : ℕ → Type 0) (sent : List Sending) (stream index : ℕ) (places : List ℕ) : Type 0 where
   pub split : AreSplitAsAsked asked sent stream index places
   pub no_gap : HaveNoGapBefore asked sent stream split.count places
+  pub all : empty split.count → index ≤ length places → AreReadBefore asked sent stream index split.count places
 
 -- Each reset that is reported splits them so. And since the last one none is missing either: what is read of an epoch without limits
 -- is a prefix of what was sent in it.
-pub record IsDeliveredInEpochs (asked : ℕ → ℕ → Type 0) (told : List ℕ → ℕ → Type 0) (sent : List Sending) (read : List MessageContent) : Type 0 where
+pub record IsDeliveredInEpochs (asked empty : ℕ → ℕ → Type 0) (told : List ℕ → ℕ → Type 0) (sent : List Sending) (read : List MessageContent) : Type 0 where
   pub delivered : IsDeliveredInOrder sent read
-  pub epochs : (streams : List ℕ) (index : ℕ) → told streams index → (stream : ℕ) → names_stream streams stream ≡ true → IsSplitWithoutGaps (asked stream) sent stream index delivered.places
+  pub epochs : (streams : List ℕ) (index : ℕ) → told streams index → (stream : ℕ) → names_stream streams stream ≡ true → IsSplitWithoutGaps (asked stream) (empty stream) sent stream index delivered.places
   pub no_gap : (stream : ℕ) → HaveNoGapBefore (asked stream) sent stream (length sent) delivered.places

@@ -265,7 +265,8 @@ pub record BeginsAssociation (e : Endpoint) (o : Outcome) : Type 0 where
   pub later : List Effect
   pub noted : o.effects ≡ holds (identity_of my held) ∷ later
   pub queue : SendQueueState
-  pub keeps : ((queue ≡ numbered_for held.capabilities.message_interleaving e.queues.queue) × (e.options.follow_rfc ≡ false)) ⊎ (queue ≡ numbered_for held.capabilities.message_interleaving (queue_restarted e.queues.queue))
+  pub keeps : ((queue ≡ numbered_for held.capabilities.message_interleaving window e.queues.queue) × (e.options.follow_rfc ≡ false))
+      ⊎ (queue ≡ numbered_for held.capabilities.message_interleaving window (queue_restarted e.queues.queue))
 
 -- with nothing in flight and nothing received
 abbrev pub begun_transfer : (e : Endpoint) (o : Outcome) → BeginsAssociation e o → Transfer

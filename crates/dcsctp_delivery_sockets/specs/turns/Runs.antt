@@ -111,7 +111,7 @@ RefusesNone e o = e.queues.queue.is_interleaved ≡ true → has_refused o.effec
 
 -- The streams that the user resets by it, if it isn't refused, may be reset when so many messages were queued.
 abbrev pub MayDrop : Endpoint → Input → ℕ → Beginning → Type 0
-MayDrop e input count beginning = reset_refusal e ≡ None → (ids : List ℕ) → streams_user_resets input ≡ Some ids → AllByRecursion (MayReset beginning count) ids
+MayDrop e input count beginning = reset_refusal e ≡ None → (ids : List ℕ) → streams_user_resets input ≡ Some ids → AllByRecursion (MayReset beginning count e.queues.queue.streams) ids
 
 -- If an association begins in this turn, its own first TSN has 32 bits.
 abbrev pub OpensSmall : Endpoint → Input → Outcome → Type 0
@@ -135,14 +135,14 @@ SendersGoOn =
 -- A run begins where the socket was just made, with number 0 on each stream and nothing queued,
 abbrev pub SendersBegin : Type 0
 SendersBegin =
-    (mine options : Options) (first size : ℕ) (keeps : ℕ → Bool) (asks : ℕ → ℕ → Bool)
-    → DirectionRun options first size (new_direction options first size [] (record { queue = empty_queue mine; transfer = None }) 0 [] (record { from_zero = true; has_all = true; keeps = keeps; asks = asks }))
+    (mine options : Options) (first size : ℕ) (keeps : ℕ → Bool) (asks empties : ℕ → ℕ → Bool)
+    → DirectionRun options first size (new_direction options first size [] (record { queue = empty_queue mine; transfer = None }) 0 [] (record { from_zero = true; has_all = true; keeps = keeps; asks = asks; empties = empties }))
 
 -- and where its association has ended.
 abbrev pub SendersBeginAgain : Type 0
 SendersBeginAgain =
-    (options : Options) (first size : ℕ) (asks : ℕ → ℕ → Bool) (queued : List Message) (sender_queues : EndpointQueues) → AllByRecursion Fits queued → QueueWaits queued sender_queues.queue → sender_queues.transfer ≡ None
-    → DirectionRun options first size (new_direction options first size queued sender_queues 0 [] (record { from_zero = false; has_all = false; keeps = λ id. false; asks = asks }))
+    (options : Options) (first size : ℕ) (asks empties : ℕ → ℕ → Bool) (queued : List Message) (sender_queues : EndpointQueues) → AllByRecursion Fits queued → QueueWaits queued sender_queues.queue → sender_queues.transfer ≡ None
+    → DirectionRun options first size (new_direction options first size queued sender_queues 0 [] (record { from_zero = false; has_all = false; keeps = λ id. false; asks = asks; empties = empties }))
 
 -- An association begins, and what its receiver does in the same turn are steps of a run. It waits for no reset.
 pub record OpensAssociation (e : Endpoint) (input : Input) (o : Outcome) : Type 0 where
