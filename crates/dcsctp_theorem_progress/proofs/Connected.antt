@@ -10,11 +10,13 @@ use Rattle.dcsctp_theorem_sockets.specs.Agreement.{AreUsable}
 use Rattle.dcsctp_theorem_sockets.specs.Handshake.{AreFitting}
 use Rattle.dcsctp_theorem_progress.specs.Rounds.{counts_shown, LostRounds, QuietRound}
 use Rattle.dcsctp_theorem_progress.specs.LostInits.{KeepsOptions}
-use Rattle.dcsctp_theorem_progress.specs.Connecting.{MayConnect, a_tries, b_tries, both_try, a_echoes, b_echoes, HaveConnected, LostRoundsAreMadeGood}
+use Rattle.dcsctp_theorem_progress.specs.Connecting.{MayConnect, a_tries, b_tries, both_try, a_echoes, b_echoes, a_resends, b_resends, HaveConnected, LostRoundsAreMadeGood}
 use Rattle.dcsctp_theorem_sockets.proofs.HandshakeTurns.{HandshakeLaws}
 use Rattle.dcsctp_theorem_progress.proofs.Views.{View, view, ran, ran_exchanges}
 use Rattle.dcsctp_theorem_progress.proofs.Promise.{Ready, one_connects, once_more, connected_a, connected_b}
 use Rattle.dcsctp_theorem_progress.proofs.EchoLost.{echo_ready, echo_connects_after}
+use Rattle.dcsctp_theorem_progress.specs.Retries.{t1_expiry}
+use Rattle.dcsctp_theorem_progress.proofs.DataRounds.{DataReady, data_connects_after}
 use Rattle.dcsctp_theorem_progress.proofs.TwoTry.{BothReady, both_connect_after}
 
 by_who : HandshakeLaws → TimePassesQuietly → (options : Both Options) (lost : ℕ) (settled : Both ℕ) (earlier between run : List PerformedAct) → AreUsable options → AreFitting options →
@@ -83,6 +85,42 @@ by_who law time options lost settled earlier between run are fit keeps_a keeps_b
     connected_b options turns run _ _ (record { once = refl }) (once_more v _ retries.echoed.core refl)
     (echo_connects_after law time sides.B options lost settled earlier between run _ _ are fit
     (echo_ready sides.B options earlier v w cookie bytes lost (record { a = refl; b = refl }) (record { a = keeps_a.same; b = keeps_b.same }) retries) rounds quiet runs)
+by_who law time options lost settled earlier between run are fit keeps_a keeps_b (a_resends cookie bytes h) rounds quiet runs =
+    let turns : Both (List Transition) = turns_after earlier in
+    let v : View = view options.a turns.a in
+    let w : View = view options.b turns.b in
+    let ready : DataReady sides.A options earlier cookie bytes (suc lost) (t1_expiry v.endpoint (suc lost)) v.told w.told = record {
+      v = v;
+      w = w;
+      at = record { a = refl; b = refl };
+      keep = record { a = keeps_a.same; b = keeps_b.same };
+      echoed = h.echoed;
+      t1 = h.t1;
+      expires = refl;
+      other = h.other;
+      mine = refl;
+      others = refl;
+    } in
+    connected_a options turns run _ _ (once_more v _ h.echoed.core refl) (once_more w closed h.other.core refl)
+    (data_connects_after law sides.A options lost settled earlier between run cookie bytes _ _ _ are fit ready rounds quiet runs)
+by_who law time options lost settled earlier between run are fit keeps_a keeps_b (b_resends cookie bytes h) rounds quiet runs =
+    let turns : Both (List Transition) = turns_after earlier in
+    let v : View = view options.b turns.b in
+    let w : View = view options.a turns.a in
+    let ready : DataReady sides.B options earlier cookie bytes (suc lost) (t1_expiry v.endpoint (suc lost)) v.told w.told = record {
+      v = v;
+      w = w;
+      at = record { a = refl; b = refl };
+      keep = record { a = keeps_a.same; b = keeps_b.same };
+      echoed = h.echoed;
+      t1 = h.t1;
+      expires = refl;
+      other = h.other;
+      mine = refl;
+      others = refl;
+    } in
+    connected_b options turns run _ _ (once_more w closed h.other.core refl) (once_more v _ h.echoed.core refl)
+    (data_connects_after law sides.B options lost settled earlier between run cookie bytes _ _ _ are fit ready rounds quiet runs)
 
 pub lost_rounds_are_made_good : HandshakeLaws → TimePassesQuietly → LostRoundsAreMadeGood
 lost_rounds_are_made_good law time options run are fit runs lost settled earlier between keeps_a keeps_b who rounds quiet =

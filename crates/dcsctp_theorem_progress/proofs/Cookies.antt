@@ -95,7 +95,7 @@ within len limit small large = grind (arith, nat_tests, small, large)
 limit_by : (options : Options) → 112 ≤ options.mtu → 112 ≤ packet_size_limit options
 limit_by options large = omega (arith, large)
 
-bytes_fit : (e : Endpoint) (tag : ℕ) (bytes : List ℕ) → length bytes ≡ 56 → 112 ≤ e.options.mtu → fits e (echo_emission tag bytes) ≡ true
+pub bytes_fit : (e : Endpoint) (tag : ℕ) (bytes : List ℕ) → length bytes ≡ 56 → 112 ≤ e.options.mtu → fits e (echo_emission tag bytes) ≡ true
 bytes_fit e tag bytes size large = within _ (packet_size_limit e.options) (omega (arith, echo_len bytes size)) (limit_by e.options large)
 
 again_sends : (e : Endpoint) (p : Pair) (held : Held) (bytes : List ℕ) (o : Outcome) → Echoed e p held bytes → Good e.options → T1AgainTurn e o → o ≡ echo_again e held bytes

@@ -17,7 +17,7 @@ use Rattle.dcsctp_theorem_progress.specs.LostInits.{DueT1}
 use Rattle.dcsctp_theorem_progress.specs.Retries.{RetriesT1, t1_expiry}
 use Rattle.dcsctp_theorem_progress.specs.Rounds.{AdvancesBothClocks, LostRounds, QuietRound, counts_shown}
 use Rattle.dcsctp_theorem_sockets.proofs.HandshakeTurns.{HandshakeLaws}
-use Rattle.dcsctp_theorem_progress.proofs.Chain.{JoinedBy}
+use Rattle.dcsctp_theorem_progress.proofs.Joined.{JoinedBy}
 use Rattle.dcsctp_theorem_progress.proofs.EchoRound.{Echo, echo_of, acknowledged, again, Waiting, echo_exchanged}
 use Rattle.dcsctp_theorem_progress.proofs.EchoRuns.{repeated, repeats}
 use Rattle.dcsctp_theorem_progress.proofs.Facts.{Fit}

@@ -17,7 +17,7 @@ use Rattle.dcsctp_theorem_progress.specs.Cookies.{HasEchoed, KnowsCookie, not_ye
 use Rattle.dcsctp_theorem_progress.specs.Rounds.{Exchanges, counts_shown}
 use Rattle.dcsctp_theorem_sockets.proofs.HandshakeReads.{counted_at, delivered}
 use Rattle.dcsctp_theorem_sockets.proofs.HandshakeTurns.{HandshakeLaws}
-use Rattle.dcsctp_theorem_progress.proofs.Chain.{JoinedBy}
+use Rattle.dcsctp_theorem_progress.proofs.Joined.{JoinedBy}
 use Rattle.dcsctp_theorem_progress.proofs.Cookies.{acknowledging, maintains}
 use Rattle.dcsctp_theorem_progress.proofs.EchoRuns.{held_here, offered, owes_same, pairs_fit, repeated}
 use Rattle.dcsctp_theorem_progress.proofs.Echoes.{EstablishesBy, acknowledgement_packet, bytes_packet, connects_last, establishes_by}

@@ -53,7 +53,7 @@ echo_sends e p theirs cookie tie good =
     ap (λ (x : Bool). with_effects_first holding (cond x (cond (allows_packet e.options.max_burst) (sends after words [] emission) (quiet after words [])) (quiet after words []))) (echo_fits after theirs.pair.tag cookie good.allow.mtu)
     ∙ ap (λ (x : Bool). with_effects_first holding (cond x (sends after words [] emission) (quiet after words []))) good.allow.burst
 
-answer_is_taken : HandshakeLaws → (a b : Options) (p q : Pair) (cookie : Cookie) → Good b → FitsPair p → FitsPair q → b.remote_port ≡ a.local_port
+pub answer_is_taken : HandshakeLaws → (a b : Options) (p q : Pair) (cookie : Cookie) → Good b → FitsPair p → FitsPair q → b.remote_port ≡ a.local_port
     → IsTaken a b (eqb (agreed_method (offer_of b) (offer_of a)) 0) p.tag (init_ack (answer_to a b p q) (Some (cookie_bytes cookie)))
 answer_is_taken law a b p q cookie good mine own port =
     record {

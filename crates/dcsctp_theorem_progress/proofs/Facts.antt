@@ -1,6 +1,6 @@
 -- Facts on sockets in which nothing waits, and what each is after its part of a handshake.
 use Rattle.std.specs.Prelude.{nat_le, ◌==◌, if◌then◌else◌}
-use Rattle.std.proofs.Common.{◌≡◌, ◌≤◌, ◌<◌, ◌^◌, ◌&&◌, ◌||◌, ℕ, ◌-◌, suc, Bool, true, false, not, Some, List, [], ◌∷◌, ◌++◌, length, refl, sym, subst, ap, ◌∙◌, arith}
+use Rattle.std.proofs.Common.{◌≡◌, ◌≤◌, ◌<◌, ◌^◌, ◌&&◌, ◌||◌, ℕ, ◌-◌, suc, Bool, true, false, not, Option, None, Some, List, [], ◌∷◌, ◌++◌, length, refl, sym, subst, ap, ◌∙◌, arith}
 use Rattle.std.proofs.lemmas.Bool.Decides.{nat_tests}
 use Rattle.dcsctp_spec_lemmas.specs.types.declared.association.Pair.{Pair}
 use Rattle.dcsctp_spec_lemmas.specs.types.declared.association.Held.{Held}
@@ -10,11 +10,11 @@ use Rattle.dcsctp_spec_lemmas.specs.types.Offer.{offer_of, negotiated_capabiliti
 use Rattle.dcsctp_spec_lemmas.specs.spec.Cookie.{Cookie, cookie_bytes, is_stale, cookie_moment}
 use Rattle.dcsctp_spec_lemmas.specs.spec.Packet.{Introduction, init, init_ack, cookie_echo, cookie_ack}
 use Rattle.dcsctp_spec_lemmas.specs.spec.queues.SendQueue.{empty_queue, queue_restarted}
-use Rattle.dcsctp_spec_lemmas.specs.spec.queues.Transfer.{EndpointQueues, empty_queues}
+use Rattle.dcsctp_spec_lemmas.specs.spec.queues.Transfer.{EndpointQueues, Transfer, empty_queues}
 use Rattle.dcsctp_spec_lemmas.specs.spec.endpoint.Endpoint.{Endpoint, closed, open_in, established, number_of_pair, secret_with, with_secret}
 use Rattle.dcsctp_spec_lemmas.specs.spec.endpoint.FlushOutcomes.{IsIdle}
 use Rattle.dcsctp_spec_lemmas.specs.spec.endpoint.HandshakeOutcomes.{pair_from, cookie_for, awaits_cookie_ack}
-use Rattle.dcsctp_spec_lemmas.specs.spec.endpoint.CookieEchoOutcomes.{endpoint_established, interleaves, queues_with, queue_if_kept, queues_kept, is_foreign}
+use Rattle.dcsctp_spec_lemmas.specs.spec.endpoint.CookieEchoOutcomes.{endpoint_established, interleaves, queues_with, queue_if_kept, queues_kept, is_foreign, window_by_cookie}
 use Rattle.dcsctp_spec_lemmas.specs.spec.association.HandshakeChanges.{introduction_of, held_by_init_ack, new_held}
 use Rattle.dcsctp_spec_lemmas.specs.spec.endpoint.CallTurns.{Transition, after_all}
 use Rattle.dcsctp_spec_lemmas.specs.spec.CookieFits.{FitsPair, FitsCookie}
@@ -108,16 +108,19 @@ second_of (z ∷ xs) x y = second_of xs x y
 pub owes_none : (e : Endpoint) → e.queues ≡ empty_queues e.options → OwesNothing e.queues.transfer
 owes_none e empty = subst (λ (queues : EndpointQueues). OwesNothing queues.transfer) (sym empty) tt
 
+pub owes_unheld : (e : Endpoint) → e.queues.transfer ≡ None → OwesNothing e.queues.transfer
+owes_unheld e none = subst (λ (t : Option Transfer). OwesNothing t) (sym none) tt
+
 pub idle_waiting : (e : Endpoint) (p : Pair) (theirs : Introduction) (cookie : List ℕ) (word : ℕ) → e.queues ≡ empty_queues e.options → IsIdle (awaits_cookie_ack e p theirs cookie word)
 idle_waiting e p theirs cookie word empty =
     subst (λ (queues : EndpointQueues). IsIdle (awaits_cookie_ack (record e { queues = queues }) p theirs cookie word)) (sym empty)
-    (idle_once_numbered (e.options.enable_message_interleaving && theirs.offer.message_interleaving) (queue_restarted (empty_queue e.options)) (awaits_cookie_ack e p theirs cookie word).queues.transfer refl refl)
+    (idle_once_numbered (e.options.enable_message_interleaving && theirs.offer.message_interleaving) theirs.window (queue_restarted (empty_queue e.options)) (awaits_cookie_ack e p theirs cookie word).queues.transfer refl refl)
 
 queue_idle : (follows : Bool) (e : Endpoint) (cookie : Cookie) (word : ℕ) → IsIdle (endpoint_established e cookie (queues_with e cookie (queue_if_kept follows (record e { queues = empty_queues e.options }) cookie)) word)
 queue_idle true e cookie word =
-    idle_once_numbered (interleaves e cookie) (queue_restarted (empty_queue e.options)) (queues_with e cookie (empty_queue e.options)).transfer refl refl
+    idle_once_numbered (interleaves e cookie) (window_by_cookie e.options cookie) (queue_restarted (empty_queue e.options)) (queues_with e cookie (empty_queue e.options)).transfer refl refl
 queue_idle false e cookie word =
-    idle_once_numbered (interleaves e cookie) (empty_queue e.options) (queues_with e cookie (empty_queue e.options)).transfer refl refl
+    idle_once_numbered (interleaves e cookie) (window_by_cookie e.options cookie) (empty_queue e.options) (queues_with e cookie (empty_queue e.options)).transfer refl refl
 
 pub idle_established : (e : Endpoint) (cookie : Cookie) (word : ℕ) → e.queues ≡ empty_queues e.options → IsIdle (endpoint_established e cookie (queues_kept e cookie) word)
 idle_established e cookie word empty =

@@ -38,14 +38,13 @@ tries : (a : Options) (word next more : ℕ) → LeavesRestarts a.max_init_retra
 tries a word next more left =
     record {
       core = refl;
-      empty = refl;
       asks = never_with a.follow_rfc;
       pair = fits_drawn word next;
       t1 = record { timer = _; runs = refl; left = left; clock = omega arith; deadline = cut _ max_nanos };
     }
 
 rests : (b : Options) → RestsWithoutTag (fresh_endpoint b)
-rests b = record { rests = record { core = refl; empty = refl; secret = omega arith }; anew = λ tag. never_with b.follow_rfc }
+rests b = record { rests = record { core = refl; unheld = refl; unpaused = tt; secret = omega arith }; anew = λ tag. never_with b.follow_rfc }
 
 own_secret : (follows : Bool) (q : Pair) → 1 ≤ q.tag → let secret = if follows && true then number_of_pair q else 0 in (follows && secret == 0) ≡ false
 own_secret true q some = grind (arith, nat_tests)
@@ -55,6 +54,8 @@ takes : (a : Options) (word next : ℕ) → TakesOwn (after_all (fresh_endpoint 
 takes a word next =
     let q : Pair = pair_from word next in
     record {
+      unheld = refl;
+      unpaused = tt;
       secret = secret_fits (fresh_endpoint a) q (fits_drawn word next) (omega arith);
       has_secret = own_secret a.follow_rfc q (fits_drawn word next).tag_is_not_zero;
       anew = never_with a.follow_rfc;

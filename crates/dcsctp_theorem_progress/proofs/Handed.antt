@@ -20,7 +20,7 @@ one_more (y ∷ xs) x = ap suc (one_more xs x)
 pub one_delivery : (side : Side) (settled shown : ℕ) → shown ≡ suc settled → deliveries side settled (shown - settled) ≡ step_act (delivery_step side (suc settled)) ∷ []
 one_delivery side settled shown is = let one : shown - settled ≡ 1 = omega (arith, is) in ap (deliveries side settled) one
 
-no_delivery : (side : Side) (settled shown : ℕ) → shown ≡ settled → deliveries side settled (shown - settled) ≡ []
+pub no_delivery : (side : Side) (settled shown : ℕ) → shown ≡ settled → deliveries side settled (shown - settled) ≡ []
 no_delivery side settled shown is = let none : shown - settled ≡ 0 = omega (arith, is) in ap (deliveries side settled) none
 
 -- ---- a packet of A, and one of B

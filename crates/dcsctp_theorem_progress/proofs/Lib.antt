@@ -13,7 +13,6 @@ mod Chain
 mod Starts
 mod HandedBoth
 mod Collision
-mod Collides
 mod Promise
 mod TwoTry
 pub mod Connected
@@ -31,3 +30,25 @@ mod GivenCookies
 mod LossyInit
 mod LossySteps
 mod Restarts
+mod FlightKinds
+mod Carried
+mod Flows
+mod Flushes
+mod Opened
+mod HandedAll
+mod Walks
+mod Carrying
+mod Establishing
+mod Acknowledged
+mod EchoComes
+mod Joined
+mod AckComes
+mod HandedBothAll
+mod Colliding
+mod AckIgnored
+mod Meeting
+mod Constant
+mod EchoAgain
+mod BothOpen
+mod DataEcho
+mod DataRounds

@@ -7,7 +7,7 @@ use Rattle.dcsctp_spec_lemmas.specs.types.declared.schedule.Side.{Side}
 use Rattle.dcsctp_spec_lemmas.specs.spec.Cookie.{Cookie, cookie_bytes}
 use Rattle.dcsctp_spec_lemmas.specs.spec.association.HandshakeChanges.{introduction_of}
 use Rattle.dcsctp_spec_lemmas.specs.spec.endpoint.CallTurns.{Transition}
-use Rattle.dcsctp_spec_lemmas.specs.spec.endpoint.Endpoint.{Endpoint, secret_with}
+use Rattle.dcsctp_spec_lemmas.specs.spec.endpoint.Endpoint.{Endpoint}
 use Rattle.dcsctp_spec_lemmas.specs.spec.endpoint.HandshakeOutcomes.{pair_from}
 use Rattle.dcsctp_spec_lemmas.specs.spec.endpoint.HeartbeatOutcomes.{is_exhausted}
 use Rattle.dcsctp_spec_lemmas.specs.spec.endpoint.TimeTurns.{next_moment}
@@ -17,12 +17,12 @@ use Rattle.dcsctp_theorem_sockets.specs.Handshake.{AreFitting}
 use Rattle.dcsctp_theorem_progress.specs.Connecting.{RestsWithoutTag}
 use Rattle.dcsctp_theorem_progress.specs.Cookies.{HasEchoed, not_yet}
 use Rattle.dcsctp_theorem_progress.specs.LossyRounds.{LossyExchanges, LossyRound, still_inits, still_echoes}
-use Rattle.dcsctp_theorem_progress.specs.LostInits.{AwaitsInitAck}
+use Rattle.dcsctp_theorem_progress.specs.LostInits.{NothingWaits, AwaitsInitAck}
 use Rattle.dcsctp_theorem_progress.specs.Retries.{LeavesRestarts, RetriesInit}
 use Rattle.dcsctp_theorem_progress.specs.Rounds.{counts_shown}
 use Rattle.dcsctp_theorem_sockets.proofs.HandshakeReads.{counted_at}
 use Rattle.dcsctp_theorem_sockets.proofs.HandshakeTurns.{HandshakeLaws, answer_to}
-use Rattle.dcsctp_theorem_progress.proofs.Chain.{Replied, begun, acknowledged}
+use Rattle.dcsctp_theorem_progress.proofs.Chain.{begun, acknowledged}
 use Rattle.dcsctp_theorem_progress.proofs.EchoRound.{Echo}
 use Rattle.dcsctp_theorem_progress.proofs.Echoes.{answer_packet, Echoes, echoes, echo_packet, EstablishesBy}
 use Rattle.dcsctp_theorem_progress.proofs.Facts.{Fit, fits_drawn, secret_fits, owes_none, idle_waiting, idle_established}
@@ -31,10 +31,10 @@ use Rattle.dcsctp_theorem_progress.proofs.Lossy.{HandedOrLost, given, lost, mayb
 use Rattle.dcsctp_theorem_progress.proofs.LossyEcho.{Led, as_far, Acking, acked}
 use Rattle.dcsctp_theorem_progress.proofs.Promise.{MovedOf, fit_of, lesser_of, moment_is, moves_of}
 use Rattle.dcsctp_theorem_progress.proofs.Retries.{awaits_next, never, next_fits, Onward, onward, Resting, resting, fewer as less_restarts}
-use Rattle.dcsctp_theorem_progress.proofs.Starts.{answered, replied_anew}
+use Rattle.dcsctp_theorem_progress.proofs.Starts.{answered}
 use Rattle.dcsctp_theorem_progress.proofs.Turns.{Answers, answers, init_packet, init_repeated, t1_sends_init}
 use Rattle.dcsctp_theorem_progress.proofs.Views.{AtOf, KeepOf, View, view_then}
-use Rattle.dcsctp_theorem_progress.proofs.GivenCookies.{Start, cookie_given, echoing, has_echoed, t1_begun, takes_it}
+use Rattle.dcsctp_theorem_progress.proofs.GivenCookies.{still_nothing, takes_alone, Start, cookie_given, echoing, has_echoed, t1_begun, takes_it}
 
 -- ---- COOKIE ECHO and COOKIE ACK
 
@@ -58,8 +58,7 @@ by_echo law side options settled settled' earlier run v w p moment more word nex
     let f : Endpoint = there.endpoint in
     let q : Pair = pair_from word next in
     let cookie : Cookie = cookie_given v w p word next in
-    let replied : Replied v there p q w.endpoint.moment (secret_with w.endpoint q) w.shown = replied_anew law side options v w p moment word next s.ground s.rests.rests s.rests.anew in
-    let one : EstablishesBy f cookie (cookie_bytes cookie) h.turns = replied.takes h.turns h.input in
+    let one : EstablishesBy f cookie (cookie_bytes cookie) h.turns = takes_alone law side options v w p moment more word next h.turns s h.input in
     let last : View = acknowledged there cookie one.tie in
     let h' : HasEchoed here.endpoint there.endpoint cookie (cookie_bytes cookie) = has_echoed law side options v w p moment more word next tie s in
     let counts : Settles (counts_shown options (turns_after earlier)) side (length here.shown) (length there.shown) = settles side options earlier here there at in
@@ -79,7 +78,7 @@ by_echo law side options settled settled' earlier run v w p moment more word nex
         errors = h'.errors;
       };
       t1 = t1_begun side options v w p moment more word next tie s;
-      had_it = record { core = refl; idle = idle_established (counted_at f) cookie one.tie s.rests.rests.empty; owes = (refl, refl) };
+      had_it = record { core = refl; idle = idle_established (counted_at f) cookie one.tie s.nothing.there; owes = (refl, refl) };
       mine = refl;
       others = refl;
     } in
@@ -100,9 +99,9 @@ by_answer law side options settled settled' earlier run v w p moment more word n
     let there : View = answered v w p word next in
     let is : run ≡ earlier = lossy_end 2 side options settled settled' earlier rest.0 run here there at same rest.2 in
     as_far here there (subst (λ (r : List PerformedAct). AtOf side options r here there) (sym is) at) (keep_same side options v w here there refl refl s.ground.keep)
-    (still_inits p s.again
+    (still_inits p (record { here = s.nothing.here; there = s.nothing.there }) s.again
     (record {
-      rests = record { core = s.rests.rests.core; empty = s.rests.rests.empty; secret = secret_fits w.endpoint (pair_from word next) (fits_drawn word next) s.rests.rests.secret };
+      rests = record { core = s.rests.rests.core; unheld = s.rests.rests.unheld; unpaused = s.rests.rests.unpaused; secret = secret_fits w.endpoint (pair_from word next) (fits_drawn word next) s.rests.rests.secret };
       anew = s.rests.anew;
     })
     s.errors)
@@ -114,7 +113,7 @@ by_answer law side options settled settled' earlier run v w p moment more word n
     let q : Pair = pair_from word next in
     let cookie : Cookie = cookie_given v w p word next in
     let one : Echoes here.endpoint p (answer_to a b p q) cookie i.turns =
-    echoes law here.endpoint b p q cookie i.turns s.ground.awaits.core (λ tie. idle_waiting (counted_at here.endpoint) p (answer_to a b p q) (cookie_bytes cookie) tie s.ground.awaits.empty)
+    echoes law here.endpoint b p q cookie i.turns s.ground.awaits.core (λ tie. idle_waiting (counted_at here.endpoint) p (answer_to a b p q) (cookie_bytes cookie) tie s.nothing.here)
     s.ground.fit.good_a s.ground.fit.good_b s.ground.awaits.pair (fits_drawn word next) s.ground.fit.to_a i.input in
     let after : View = echoing v w p moment word next one.tie in
     let at_after : AtOf side options rest.0 after there = subst (λ (os : List Transition). AtOf side options rest.0 (view_then here os) there) one.only i.at in
@@ -131,13 +130,13 @@ by_init : HandshakeLaws → (side : Side) (options : Both Options) (settled sett
 by_init law side options settled settled' earlier run v w p moment more s at rest (lost same) runs =
     let here : View = begun v p moment in
     let is : run ≡ earlier = lossy_end 3 side options settled settled' earlier rest.0 run here w at same rest.2 in
-    as_far here w (subst (λ (r : List PerformedAct). AtOf side options r here w) (sym is) at) (keep_same side options v w here w refl refl s.ground.keep) (still_inits p s.again s.rests s.errors)
+    as_far here w (subst (λ (r : List PerformedAct). AtOf side options r here w) (sym is) at) (keep_same side options v w here w refl refl s.ground.keep) (still_inits p (record { here = s.nothing.here; there = s.nothing.there }) s.again s.rests s.errors)
 by_init law side options settled settled' earlier run v w p moment more s at rest (given h) runs =
     let a : Options = v.endpoint.options in
     let f : Endpoint = w.endpoint in
     let here : View = begun v p moment in
     let one : Answers f (introduction_of a p) h.turns =
-    answers law f a p h.turns s.rests.rests.core (owes_none f s.rests.rests.empty) s.ground.fit.good_a s.ground.fit.good_b s.ground.awaits.pair s.ground.fit.to_b h.input in
+    answers law f a p h.turns s.rests.rests.core (owes_none f s.nothing.there) s.ground.fit.good_a s.ground.fit.good_b s.ground.awaits.pair s.ground.fit.to_b h.input in
     let there : View = answered v w p one.word one.next in
     let at_there : AtOf side options rest.0 here there = subst (λ (os : List Transition). AtOf side options rest.0 here (view_then w os)) one.only h.at in
     let counts : Settles (counts_shown options (turns_after earlier)) side (length here.shown) (length w.shown) = settles side options earlier here w at in
@@ -148,10 +147,10 @@ by_init law side options settled settled' earlier run v w p moment more s at res
 -- ---- the round
 
 pub lossy_init : HandshakeLaws → (side : Side) (options : Both Options) (settled : Both ℕ) (earlier run : List PerformedAct) (v w : View) (p : Pair) (more : ℕ) → AreUsable options → AreFitting options
-    → AtOf side options earlier v w → KeepOf side options v w → RetriesInit v.endpoint p (suc more) → RestsWithoutTag w.endpoint → LeavesRestarts v.endpoint.options.max_init_retransmits 0 (suc more)
+    → AtOf side options earlier v w → KeepOf side options v w → NothingWaits v.endpoint w.endpoint → RetriesInit v.endpoint p (suc more) → RestsWithoutTag w.endpoint → LeavesRestarts v.endpoint.options.max_init_retransmits 0 (suc more)
     → is_exhausted v.endpoint.options.max_retransmissions v.endpoint.error_count ≡ false
     → LossyRound options (counts_shown options (turns_after earlier)) earlier settled run → SocketRun options run → Led side options run more (suc v.told) (suc w.told)
-lossy_init law side options settled earlier run v w p more are fit at keep tries rests restarts errors lossy runs =
+lossy_init law side options settled earlier run v w p more are fit at keep nothing tries rests restarts errors lossy runs =
     let moment : ℕ = lesser_of side v w in
     let good : Fit v.endpoint.options w.endpoint.options = fit_of side options v w are fit keep in
     let between : SocketRun options lossy.between = ran_lossy options 4 _ settled lossy.between run lossy.exchanges runs in
@@ -166,6 +165,7 @@ lossy_init law side options settled earlier run v w p more are fit at keep tries
     let there : View = view_then w moved.others in
     let kept : KeepOf side options v there = keep_same side options v w v there refl still.same keep in
     let s : Start side options v there p moment more = record {
+      nothing = still_nothing v.endpoint w.endpoint v.endpoint there.endpoint refl refl still.queues still.same nothing;
       ground = record { awaits = awaits; fit = subst (λ (o : Options). Fit v.endpoint.options o) (sym still.same) good; keep = kept };
       rests = still.rests;
       again = subst (λ (os : List Transition). RetriesInit (view_then v os).endpoint p more) is on.tries;

@@ -46,17 +46,17 @@ led_b options earlier run more m n a b (as_far here there at keep h) = shown_so 
 led_b options earlier run more m n a b (joined h) = connects (connected_b options (turns_after earlier) run m n a b h)
 
 pub lossy_rounds_lead_on : HandshakeLaws → TimePassesQuietly → LossyRoundsLeadOn
-lossy_rounds_lead_on law time options run are fit runs sides.A more settled earlier keeps_a keeps_b restarts (still_inits p tries rests errors) in_time lossy =
+lossy_rounds_lead_on law time options run are fit runs sides.A more settled earlier keeps_a keeps_b restarts (still_inits p nothing tries rests errors) in_time lossy =
     let v : View = view options.a (turns_after earlier).a in
     let w : View = view options.b (turns_after earlier).b in
     led_a options earlier run more _ _ (once_more v (cookie_wait p) tries.core refl) (once_more w closed rests.rests.core refl)
-    (lossy_init law sides.A options settled earlier run v w p more are fit (record { a = refl; b = refl }) (record { a = keeps_a.same; b = keeps_b.same }) tries rests
+    (lossy_init law sides.A options settled earlier run v w p more are fit (record { a = refl; b = refl }) (record { a = keeps_a.same; b = keeps_b.same }) nothing tries rests
     (subst (λ (o : Options). LeavesRestarts o.max_init_retransmits 0 (suc more)) (sym keeps_a.same) restarts) errors lossy runs)
-lossy_rounds_lead_on law time options run are fit runs sides.B more settled earlier keeps_b keeps_a restarts (still_inits p tries rests errors) in_time lossy =
+lossy_rounds_lead_on law time options run are fit runs sides.B more settled earlier keeps_b keeps_a restarts (still_inits p nothing tries rests errors) in_time lossy =
     let v : View = view options.b (turns_after earlier).b in
     let w : View = view options.a (turns_after earlier).a in
     led_b options earlier run more _ _ (once_more w closed rests.rests.core refl) (once_more v (cookie_wait p) tries.core refl)
-    (lossy_init law sides.B options settled earlier run v w p more are fit (record { a = refl; b = refl }) (record { a = keeps_a.same; b = keeps_b.same }) tries rests
+    (lossy_init law sides.B options settled earlier run v w p more are fit (record { a = refl; b = refl }) (record { a = keeps_a.same; b = keeps_b.same }) nothing tries rests
     (subst (λ (o : Options). LeavesRestarts o.max_init_retransmits 0 (suc more)) (sym keeps_b.same) restarts) errors lossy runs)
 lossy_rounds_lead_on law time options run are fit runs sides.A more settled earlier keeps_a keeps_b restarts (still_echoes cookie bytes echoed t1 knows) in_time lossy =
     let v : View = view options.a (turns_after earlier).a in
@@ -79,11 +79,11 @@ retries_echo e f cookie bytes echoed t1 other =
 
 -- What is left to a quiet round it connects.
 may_connect_a : (e f : Endpoint) → IsTrying 1 e f → ComesInTime e f → MayConnect 1 e f
-may_connect_a e f (still_inits p tries rests errors) in_time = a_tries p tries rests
+may_connect_a e f (still_inits p nothing tries rests errors) in_time = a_tries p tries rests
 may_connect_a e f (still_echoes cookie bytes echoed t1 knows) in_time = a_echoes cookie bytes (retries_echo e f cookie bytes echoed t1 (in_time cookie bytes echoed knows))
 
 may_connect_b : (e f : Endpoint) → IsTrying 1 f e → ComesInTime f e → MayConnect 1 e f
-may_connect_b e f (still_inits p tries rests errors) in_time = b_tries p tries rests
+may_connect_b e f (still_inits p nothing tries rests errors) in_time = b_tries p tries rests
 may_connect_b e f (still_echoes cookie bytes echoed t1 knows) in_time = b_echoes cookie bytes (retries_echo f e cookie bytes echoed t1 (in_time cookie bytes echoed knows))
 
 by_quiet : LostRoundsAreMadeGood → (side : Side) (options : Both Options) (settled : Both ℕ) (earlier run : List PerformedAct) → AreUsable options → AreFitting options → SocketRun options run

@@ -39,7 +39,7 @@ not_moved w moment earlier =
       shown = ap length (append-nil w.shown);
     }
 
-closed_moves_by : (later : Bool) (w : View) (moment : ℕ) (turns : List Transition) → nat_le w.endpoint.moment moment ≡ later → w.endpoint.core ≡ closed → TimeTurns later w.endpoint moment turns
+pub closed_moves_by : (later : Bool) (w : View) (moment : ℕ) (turns : List Transition) → nat_le w.endpoint.moment moment ≡ later → w.endpoint.core ≡ closed → TimeTurns later w.endpoint moment turns
     → ClockMoves w moment turns
 closed_moves_by true w moment turns is rests time =
     subst (ClockMoves w moment) (sym (closed_still w.endpoint moment turns rests time))
@@ -69,7 +69,7 @@ open_moves_by quiet false w phase mine held moment turns is opened waits time =
 
 -- ---- what is due
 
-same_greatest : (n m last : ℕ) → m ≤ last → max (max n m) last ≡ max n last
+pub same_greatest : (n m last : ℕ) → m ≤ last → max (max n m) last ≡ max n last
 same_greatest n m last fits = omega (arith, fits)
 
 later_by : (first n m last : ℕ) → m ≤ last → last < max first n → last < max first (max n m)
@@ -113,7 +113,7 @@ echoed_still e f cookie bytes k h =
       errors = h.errors;
     }
 
-greatest_fits : (n m : ℕ) → m ≤ max n m
+pub greatest_fits : (n m : ℕ) → m ≤ max n m
 greatest_fits n m = omega arith
 
 remains_by : (v w : View) (cookie : Cookie) (bytes : List ℕ) (last moment : ℕ) (turns : List Transition) → HasEchoed v.endpoint w.endpoint cookie bytes
@@ -147,7 +147,7 @@ remains quiet v w cookie bytes last moment turns h (had m waits) fits time =
 
 -- ---- at the last moment
 
-is_greatest : (n m : ℕ) → m ≤ n → max n m ≡ n
+pub is_greatest : (n m : ℕ) → m ≤ n → max n m ≡ n
 is_greatest n m fits = omega (arith, fits)
 
 -- Its clock shows that moment or a later one: so it takes the cookie now.

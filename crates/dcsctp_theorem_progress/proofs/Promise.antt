@@ -23,7 +23,8 @@ use Rattle.dcsctp_theorem_progress.proofs.EchoRuns.{fitting}
 use Rattle.dcsctp_theorem_progress.proofs.Retries.{never, next_fits, awaits_next, Onward, onward, Resting, resting}
 use Rattle.dcsctp_theorem_progress.proofs.Views.{View, view, view_then, AtOf, KeepOf, Moved, lesser, time_moves, ran, ran_exchanges}
 use Rattle.dcsctp_theorem_progress.proofs.Handed.{settles, keep_same}
-use Rattle.dcsctp_theorem_progress.proofs.Chain.{Ground, JoinedBy, Joined}
+use Rattle.dcsctp_theorem_progress.proofs.Chain.{Ground}
+use Rattle.dcsctp_theorem_progress.proofs.Joined.{JoinedBy, Joined}
 use Rattle.dcsctp_theorem_progress.proofs.Starts.{closed_connects}
 
 -- ---- either side

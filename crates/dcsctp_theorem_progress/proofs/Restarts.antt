@@ -35,7 +35,7 @@ use Rattle.dcsctp_theorem_progress.specs.Restarts.{HasOlder, OlderAssociationsGi
 use Rattle.dcsctp_theorem_progress.specs.Retries.{RetriesT1}
 use Rattle.dcsctp_theorem_progress.specs.Rounds.{counts_shown, QuietRound}
 use Rattle.dcsctp_theorem_progress.proofs.AckLost.{echoed_beside}
-use Rattle.dcsctp_theorem_progress.proofs.Chain.{JoinedBy}
+use Rattle.dcsctp_theorem_progress.proofs.Joined.{JoinedBy}
 use Rattle.dcsctp_theorem_progress.proofs.EchoRound.{Acknowledged, Waiting, echo_exchanged}
 use Rattle.dcsctp_theorem_progress.proofs.EchoRuns.{offered, pairs_fit, repeated, repeats}
 use Rattle.dcsctp_theorem_progress.proofs.Echoes.{Spells, acknowledgement, bytes_packet, echo_is_taken}

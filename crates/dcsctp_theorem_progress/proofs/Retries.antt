@@ -77,7 +77,7 @@ due_next e more counted h =
     }
 
 pub awaits_next : (e : Endpoint) (p : Pair) (more : ℕ) → RetriesInit e p (suc more) → AwaitsInitAck e p (next_moment e)
-awaits_next e p more h = record { core = h.core; t1 = due_next e more (ap timers_counted h.core) h.t1; empty = h.empty; asks = h.asks; pair = h.pair }
+awaits_next e p more h = record { core = h.core; t1 = due_next e more (ap timers_counted h.core) h.t1; asks = h.asks; pair = h.pair }
 
 -- ---- a moment
 
@@ -122,6 +122,7 @@ pub record Onward (v : View) (p : Pair) (more : ℕ) (turns : List Transition) :
   pub told : (view_then v turns).told ≡ v.told
   pub secret : (view_then v turns).endpoint.secret ≡ v.endpoint.secret
   pub last : (view_then v turns).endpoint.last_tag ≡ v.endpoint.last_tag
+  pub queues : (view_then v turns).endpoint.queues ≡ v.endpoint.queues
 
 cut : (n limit : ℕ) → min n limit ≤ limit
 cut n limit = omega arith
@@ -131,7 +132,7 @@ t1_stays e more h =
     record { timer = h.timer; runs = h.runs; left = fewer h.timer.terms.max_restarts h.timer.expiries more h.left; clock = h.clock; deadline = h.deadline }
 
 stays : (e : Endpoint) (p : Pair) (more : ℕ) → RetriesInit e p (suc more) → RetriesInit e p more
-stays e p more h = record { core = h.core; empty = h.empty; asks = h.asks; pair = h.pair; t1 = t1_stays e more h.t1 }
+stays e p more h = record { core = h.core; asks = h.asks; pair = h.pair; t1 = t1_stays e more h.t1 }
 
 -- Once it has expired at this moment, it has a restart less.
 pub t1_continues : (e f : Endpoint) (more moment : ℕ) → moment ≤ max_nanos → RetriesT1 e (suc more) → f.moment ≡ moment → f.timers.t1 ≡ option_map (continued_timer moment) e.timers.t1 → RetriesT1 f more
@@ -174,14 +175,13 @@ next_is_first e more counted h =
 
 onward_by : (v : View) (p : Pair) (more moment : ℕ) (turns : List Transition) → moment ≤ max_nanos → RetriesInit v.endpoint p (suc more) → Advanced v.endpoint p moment turns → Onward v p more turns
 onward_by v p more moment turns fits h (no_time is) =
-    subst (Onward v p more) (sym is) (record { tries = stays v.endpoint p more h; same = refl; told = refl; secret = refl; last = refl })
+    subst (Onward v p more) (sym is) (record { tries = stays v.endpoint p more h; same = refl; told = refl; secret = refl; last = refl; queues = refl })
 onward_by v p more moment turns fits h (too_early is) =
     let less : RetriesInit v.endpoint p more = stays v.endpoint p more h in
     subst (Onward v p more) (sym is)
     (record {
       tries = record {
         core = less.core;
-        empty = less.empty;
         asks = less.asks;
         pair = less.pair;
         t1 = record { timer = less.t1.timer; runs = less.t1.runs; left = less.t1.left; clock = fits; deadline = less.t1.deadline };
@@ -190,13 +190,13 @@ onward_by v p more moment turns fits h (too_early is) =
       told = refl;
       secret = refl;
       last = refl;
+      queues = refl;
     })
 onward_by v p more moment turns fits h (expires due is) =
     subst (Onward v p more) (sym is)
     (record {
       tries = record {
         core = h.core;
-        empty = h.empty;
         asks = h.asks;
         pair = h.pair;
         t1 = t1_continues v.endpoint (after_all v.endpoint (init_repeated v.endpoint p moment)) more moment fits h.t1 refl refl;
@@ -205,6 +205,7 @@ onward_by v p more moment turns fits h (expires due is) =
       told = refl;
       secret = refl;
       last = refl;
+      queues = refl;
     })
 
 -- A moment uses at most one restart.
@@ -218,6 +219,7 @@ onward v p more moment turns large fits h time = onward_by v p more moment turns
 pub record Resting (w : View) (turns : List Transition) : Type 0 where
   pub rests : RestsWithoutTag (view_then w turns).endpoint
   pub same : (view_then w turns).endpoint.options ≡ w.endpoint.options
+  pub queues : (view_then w turns).endpoint.queues ≡ w.endpoint.queues
   pub told : (view_then w turns).told ≡ w.told
   pub shown : length (view_then w turns).shown ≡ length w.shown
 
@@ -233,13 +235,14 @@ resting_by : (b : Bool) (w : View) (moment : ℕ) (turns : List Transition) → 
 resting_by true w moment turns h time =
     subst (Resting w) (sym (closed_still w.endpoint moment turns h.rests.core time))
     (record {
-      rests = record { rests = record { core = h.rests.core; empty = h.rests.empty; secret = h.rests.secret }; anew = h.anew };
+      rests = record { rests = record { core = h.rests.core; unheld = h.rests.unheld; unpaused = h.rests.unpaused; secret = h.rests.secret }; anew = h.anew };
+      queues = refl;
       same = refl;
       told = refl;
       shown = ap length (append-nil w.shown);
     })
 resting_by false w moment turns h time =
-    subst (Resting w) (sym time) (record { rests = h; same = refl; told = refl; shown = ap length (append-nil w.shown) })
+    subst (Resting w) (sym time) (record { rests = h; same = refl; queues = refl; told = refl; shown = ap length (append-nil w.shown) })
 
 -- A closed socket stays closed while time passes.
 pub resting : (w : View) (moment : ℕ) (turns : List Transition) → RestsWithoutTag w.endpoint → AdvanceTurns w.endpoint moment turns → Resting w turns

@@ -43,7 +43,7 @@ good_by options are fit =
     (record { valid = (are sides.A).valid; fits = (are sides.A).fits; allow = fit.a }, record { valid = (are sides.B).valid; fits = (are sides.B).fits; allow = fit.b })
 
 pub lost_inits_are_made_good : HandshakeLaws → LostInitsAreMadeGood
-lost_inits_are_made_good law options earlier p moment o1 o2 o3 o4 o5 are fit keeps_a keeps_b at rests anew runs =
+lost_inits_are_made_good law options earlier p moment o1 o2 o3 o4 o5 are fit keeps_a keeps_b nothing at rests anew runs =
     let turns : Both (List Transition) = turns_after earlier in
     let e : Endpoint = endpoint_after options.a turns.a in
     let f : Endpoint = endpoint_after options.b turns.b in
@@ -55,7 +55,7 @@ lost_inits_are_made_good law options earlier p moment o1 o2 o3 o4 o5 are fit kee
     let fitting : Fit e.options f.options = record { good_a = subst Good (sym keeps_a.same) good.0; good_b = subst Good (sym keeps_b.same) good.1; to_b = to_b; to_a = to_a } in
     let shown_a : List (List ℕ) = packets_shown options.a turns.a in
     let shown_b : List (List ℕ) = packets_shown options.b turns.b in
-    connect_again law e f p moment shown_a shown_b o1 o2 o3 o4 o5 at rests anew fitting
+    connect_again law e f p moment shown_a shown_b o1 o2 o3 o4 o5 nothing at rests anew fitting
     runs.1.1.1.1.0
     (moved (suc (length shown_a)) f f _ _ o2 refl (shown_then options.a e.options turns.a o1 keeps_a.same) runs.1.1.1.0)
     (moved (suc (length shown_b)) _ _ _ _ o3 (after_all-append (fresh_endpoint options.a) turns.a o1) (shown_then options.b f.options turns.b o2 keeps_b.same) runs.1.1.0)
@@ -63,7 +63,7 @@ lost_inits_are_made_good law options earlier p moment o1 o2 o3 o4 o5 are fit kee
     (moved (suc (suc (length shown_b))) _ _ _ _ o5 (ends_two (fresh_endpoint options.a) turns.a o1 o3) (shown_two options.b f.options turns.b o2 o4 keeps_b.same) runs.0)
 
 pub lost_inits_of_both_are_made_good : HandshakeLaws → LostInitsOfBothAreMadeGood
-lost_inits_of_both_are_made_good law options earlier p q moment o1 o2 o3 o4 o5 are fit keeps_a keeps_b at rests runs =
+lost_inits_of_both_are_made_good law options earlier p q moment o1 o2 o3 o4 o5 are fit keeps_a keeps_b nothing at rests runs =
     let turns : Both (List Transition) = turns_after earlier in
     let e : Endpoint = endpoint_after options.a turns.a in
     let f : Endpoint = endpoint_after options.b turns.b in
@@ -75,7 +75,7 @@ lost_inits_of_both_are_made_good law options earlier p q moment o1 o2 o3 o4 o5 a
     let fitting : Fit e.options f.options = record { good_a = subst Good (sym keeps_a.same) good.0; good_b = subst Good (sym keeps_b.same) good.1; to_b = to_b; to_a = to_a } in
     let shown_a : List (List ℕ) = packets_shown options.a turns.a in
     let shown_b : List (List ℕ) = packets_shown options.b turns.b in
-    connect_too law e f p q moment shown_a shown_b o1 o2 o3 o4 o5 at rests fitting
+    connect_too law e f p q moment shown_a shown_b o1 o2 o3 o4 o5 nothing at rests fitting
     runs.1.1.1.1.0
     (moved (suc (length shown_a)) f f _ _ o2 refl (shown_then options.a e.options turns.a o1 keeps_a.same) runs.1.1.1.0)
     (moved (suc (length shown_b)) _ _ _ _ o3 (after_all-append (fresh_endpoint options.a) turns.a o1) (shown_then options.b f.options turns.b o2 keeps_b.same) runs.1.1.0)

@@ -1,11 +1,12 @@
 -- The INIT of a quiet round: a closed socket answers it, or one that awaits an INIT ACK too.
 use Rattle.std.specs.Duration.{as_nanos}
-use Rattle.std.proofs.Common.{◌≡◌, ℕ, false, List, length, refl, subst}
+use Rattle.std.proofs.Common.{◌≡◌, ℕ, false, List, length, refl, ap, subst}
 use Rattle.dcsctp_spec_lemmas.specs.types.declared.association.Pair.{Pair}
 use Rattle.dcsctp_spec_lemmas.specs.types.declared.options.Options.{Options}
 use Rattle.dcsctp_spec_lemmas.specs.types.declared.schedule.Side.{Side}
-use Rattle.dcsctp_spec_lemmas.specs.spec.Cookie.{Cookie, is_stale}
-use Rattle.dcsctp_spec_lemmas.specs.spec.endpoint.Endpoint.{Endpoint, closed, secret_with}
+use Rattle.dcsctp_spec_lemmas.specs.spec.Cookie.{Cookie, cookie_bytes, is_stale}
+use Rattle.dcsctp_spec_lemmas.specs.spec.endpoint.Endpoint.{Endpoint, closed, cookie_wait, secret_with}
+use Rattle.dcsctp_spec_lemmas.specs.spec.endpoint.MessageOutcomes.{awaits_opening}
 use Rattle.dcsctp_spec_lemmas.specs.spec.endpoint.CallTurns.{Transition}
 use Rattle.dcsctp_spec_lemmas.specs.spec.endpoint.CookieEchoOutcomes.{is_tag_over, is_foreign}
 use Rattle.dcsctp_spec_lemmas.specs.spec.endpoint.HandshakeOutcomes.{pair_from}
@@ -16,12 +17,14 @@ use Rattle.dcsctp_theorem_progress.specs.LostInits.{Rests, AwaitsToo}
 use Rattle.dcsctp_theorem_sockets.proofs.HandshakeReads.{counted_at}
 use Rattle.dcsctp_theorem_sockets.proofs.HandshakeTurns.{HandshakeLaws}
 use Rattle.dcsctp_theorem_progress.proofs.Turns.{Answers, answers, answers_own, init_packet}
-use Rattle.dcsctp_theorem_progress.proofs.Echoes.{establishes, establishes_waiting}
-use Rattle.dcsctp_theorem_progress.proofs.Facts.{fits_drawn, is_young, fits_cookie, secret_fits, own_after, own_before, unspent, owes_none, idle_established, answered_turns}
+use Rattle.dcsctp_theorem_progress.proofs.Echoes.{own_bytes, new_case}
+use Rattle.dcsctp_theorem_progress.proofs.Establishing.{establishes_along}
+use Rattle.dcsctp_theorem_progress.proofs.Facts.{fits_drawn, is_young, fits_cookie, secret_fits, own_after, own_before, unspent, owes_unheld, answered_turns}
 use Rattle.dcsctp_theorem_progress.proofs.LostInitsOfBoth.{own_turns}
 use Rattle.dcsctp_theorem_progress.proofs.Views.{View, view_then, AtOf, ran_exchanges}
 use Rattle.dcsctp_theorem_progress.proofs.Handed.{Under, handed, Handed, Settles, settles, keep_same}
-use Rattle.dcsctp_theorem_progress.proofs.Chain.{Ground, given_by, Replied, Joined, begun, answered_connects}
+use Rattle.dcsctp_theorem_progress.proofs.Chain.{Ground, given_by, Replied, begun, answered_connects}
+use Rattle.dcsctp_theorem_progress.proofs.Joined.{Joined}
 
 -- the INIT, handed to the other
 init_handed : (side : Side) (options : Both Options) (v w : View) (p : Pair) (moment : ℕ) (settled settled' : Both ℕ) (earlier run : List PerformedAct)
@@ -50,12 +53,14 @@ replied_anew law side options v w p moment word next g rests anew =
     record {
       shown = refl;
       pair = fits_drawn word next;
-      takes = λ turns input.
-          establishes law there.endpoint a cookie turns rests.core
+      takes = λ more turns carried input.
+          establishes_along law there.endpoint closed a cookie (cookie_bytes cookie) more turns rests.core (ap (awaits_opening there.endpoint) rests.core)
+          (new_case (counted_at there.endpoint) cookie
           (unspent (is_tag_over f closed q.tag) (is_foreign there.endpoint closed cookie.tie) (is_stale (as_nanos f.options.cookie_lifetime) f.moment cookie) (anew q.tag)
-          (own_after f q (fits_drawn word next).tag_is_not_zero) (is_young (as_nanos f.options.cookie_lifetime) f.moment (introduction_of a p) q (secret_with f q)))
-          (fits_cookie a f.moment p q (secret_with f q) g.fit.good_a g.awaits.pair (fits_drawn word next) (secret_fits f q (fits_drawn word next) rests.secret))
-          (λ tie. idle_established (counted_at there.endpoint) cookie tie rests.empty) g.fit.good_a g.fit.good_b g.fit.to_b input;
+          (own_after f q (fits_drawn word next).tag_is_not_zero) (is_young (as_nanos f.options.cookie_lifetime) f.moment (introduction_of a p) q (secret_with f q))))
+          (λ has e o begin. begin)
+          (own_bytes law cookie (fits_cookie a f.moment p q (secret_with f q) g.fit.good_a g.awaits.pair (fits_drawn word next) (secret_fits f q (fits_drawn word next) rests.secret)))
+          rests.unpaused g.fit.good_a g.fit.good_b g.fit.to_b carried input;
     }
 
 pub closed_connects : HandshakeLaws → (side : Side) (options : Both Options) (v w : View) (p : Pair) (moment : ℕ) (settled settled' : Both ℕ) (earlier run : List PerformedAct)
@@ -67,7 +72,7 @@ closed_connects law side options v w p moment settled settled' earlier run g res
     let f : Endpoint = w.endpoint in
     let here : View = begun v p moment in
     let h : Handed side options rest.0 here w (init_packet a p) = init_handed side options v w p moment settled settled' earlier run g at counts rest runs in
-    let one : Answers f (introduction_of a p) h.turns = answers law f a p h.turns rests.core (owes_none f rests.empty) g.fit.good_a g.fit.good_b g.awaits.pair g.fit.to_b h.input in
+    let one : Answers f (introduction_of a p) h.turns = answers law f a p h.turns rests.core (owes_unheld f rests.unheld) g.fit.good_a g.fit.good_b g.awaits.pair g.fit.to_b h.input in
     let q : Pair = pair_from one.word one.next in
     let there : View = answered v w p one.word one.next in
     let ground : Ground side options v there p moment = record { awaits = g.awaits; fit = g.fit; keep = keep_same side options v w v there refl refl g.keep } in
@@ -92,12 +97,13 @@ replied_own law side options v w p q moment g too =
     record {
       shown = refl;
       pair = too.pair;
-      takes = λ turns input.
-          establishes_waiting law there.endpoint q a cookie turns too.core
+      takes = λ more turns carried input.
+          establishes_along law there.endpoint (cookie_wait q) a cookie (cookie_bytes cookie) more turns too.core (ap (awaits_opening there.endpoint) too.core)
+          (new_case (counted_at there.endpoint) cookie
           (unspent (is_tag_over f closed q.tag) (is_foreign f closed f.secret) (is_stale (as_nanos f.options.cookie_lifetime) f.moment cookie) too.anew (own_before f too.has_secret)
-          (is_young (as_nanos f.options.cookie_lifetime) f.moment (introduction_of a p) q f.secret))
-          (fits_cookie a f.moment p q f.secret g.fit.good_a g.awaits.pair too.pair too.secret)
-          (λ tie. idle_established (counted_at there.endpoint) cookie tie too.empty) g.fit.good_a g.fit.good_b g.fit.to_b input;
+          (is_young (as_nanos f.options.cookie_lifetime) f.moment (introduction_of a p) q f.secret)))
+          (λ has e o begin. begin) (own_bytes law cookie (fits_cookie a f.moment p q f.secret g.fit.good_a g.awaits.pair too.pair too.secret))
+          too.unpaused g.fit.good_a g.fit.good_b g.fit.to_b carried input;
     }
 
 pub waiting_connects : HandshakeLaws → (side : Side) (options : Both Options) (v w : View) (p q : Pair) (moment : ℕ) (settled settled' : Both ℕ) (earlier run : List PerformedAct)
@@ -109,7 +115,7 @@ waiting_connects law side options v w p q moment settled settled' earlier run g 
     let f : Endpoint = w.endpoint in
     let here : View = begun v p moment in
     let h : Handed side options rest.0 here w (init_packet a p) = init_handed side options v w p moment settled settled' earlier run g at counts rest runs in
-    let one : h.turns ≡ own_turns f a p q = answers_own law f a p q h.turns too.core (owes_none f too.empty) g.fit.good_a g.fit.good_b g.awaits.pair g.fit.to_b h.input in
+    let one : h.turns ≡ own_turns f a p q = answers_own law f a p q h.turns too.core (owes_unheld f too.unheld) g.fit.good_a g.fit.good_b g.awaits.pair g.fit.to_b h.input in
     let there : View = own v w p q in
     let ground : Ground side options v there p moment = record { awaits = g.awaits; fit = g.fit; keep = keep_same side options v w v there refl refl g.keep } in
     let j : Joined side options run v there =

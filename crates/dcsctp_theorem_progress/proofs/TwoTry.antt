@@ -11,6 +11,8 @@ use Rattle.dcsctp_spec_lemmas.specs.types.declared.schedule.Side.TheVariants as 
 use Rattle.dcsctp_spec_lemmas.specs.types.Offer.{offer_of, negotiated_capabilities}
 use Rattle.dcsctp_spec_lemmas.specs.spec.association.HandshakeChanges.{new_held}
 use Rattle.dcsctp_spec_lemmas.specs.spec.endpoint.Endpoint.{Endpoint, Core, open_in, established}
+use Rattle.dcsctp_spec_lemmas.specs.spec.queues.Transfer.{EndpointQueues}
+use Rattle.dcsctp_delivery_directions.specs.sending.Losing.{AreOpen}
 use Rattle.dcsctp_spec_lemmas.specs.spec.endpoint.CallTurns.{Transition}
 use Rattle.dcsctp_spec_lemmas.specs.spec.endpoint.TimeTurns.{next_moment}
 use Rattle.dcsctp_spec_runs.specs.Sockets.{PerformedAct, Both, turns_after, SocketRun}
@@ -26,7 +28,8 @@ use Rattle.dcsctp_theorem_progress.proofs.Facts.{Fit}
 use Rattle.dcsctp_theorem_progress.proofs.Retries.{next_fits, awaits_next, Advanced, no_time, too_early, expires, advanced, Onward, onward, clock_turn}
 use Rattle.dcsctp_theorem_progress.proofs.Views.{View, view, view_then, At, Keep, AtOf, KeepOf, Moved, lesser, time_moves, ran_exchanges}
 use Rattle.dcsctp_theorem_progress.proofs.Handed.{Settles, settles, keep_same}
-use Rattle.dcsctp_theorem_progress.proofs.Chain.{Ground, Joined, begun}
+use Rattle.dcsctp_theorem_progress.proofs.Chain.{Ground, begun}
+use Rattle.dcsctp_theorem_progress.proofs.Joined.{Joined}
 use Rattle.dcsctp_theorem_progress.proofs.Starts.{waiting_connects}
 use Rattle.dcsctp_theorem_progress.proofs.Collision.{both_connect}
 use Rattle.dcsctp_theorem_progress.proofs.Promise.{fit_of, ran_lost, settled_by, Counted, connected_a, connected_b}
@@ -46,13 +49,13 @@ pub record BothReady (options : Both Options) (run : List PerformedAct) (p q : P
   pub told_here : v.told ≡ m
   pub told_there : w.told ≡ n
 
-takes_still : (e f : Endpoint) (p : Pair) → f.options ≡ e.options → f.secret ≡ e.secret → f.last_tag ≡ e.last_tag → TakesOwn e p → TakesOwn f p
-takes_still e f p options secret last h =
+takes_still : (e f : Endpoint) (p : Pair) → f.queues ≡ e.queues → f.options ≡ e.options → f.secret ≡ e.secret → f.last_tag ≡ e.last_tag → TakesOwn e p → TakesOwn f p
+takes_still e f p queues options secret last h =
     let at_options : TakesOwn (record e { options = f.options }) p = subst (λ (o : Options). TakesOwn (record e { options = o }) p) (sym options) h in
     let at_secret : TakesOwn (record e { options = f.options; secret = f.secret }) p = subst (λ (s : ℕ). TakesOwn (record e { options = f.options; secret = s }) p) (sym secret) at_options in
     let at_last : TakesOwn (record e { options = f.options; secret = f.secret; last_tag = f.last_tag }) p =
     subst (λ (t : Option ℕ). TakesOwn (record e { options = f.options; secret = f.secret; last_tag = t }) p) (sym last) at_secret in
-    record { secret = at_last.secret; has_secret = at_last.has_secret; anew = at_last.anew }
+    record { unheld = ap (λ (q : EndpointQueues). q.transfer) queues ∙ h.unheld; unpaused = subst (λ (q : EndpointQueues). AreOpen q.queue.streams) (sym queues) h.unpaused; secret = at_last.secret; has_secret = at_last.has_secret; anew = at_last.anew }
 
 lesser_fits : (n m limit : ℕ) → n ≤ limit → min n m ≤ limit
 lesser_fits n m limit fits = omega (arith, fits)
@@ -75,8 +78,8 @@ lost_round options before run p q more m n are fit h time runs =
       keep = record { a = a.same ∙ h.keep.a; b = b.same ∙ h.keep.b };
       here = a.tries;
       there = b.tries;
-      own_here = takes_still h.v.endpoint v.endpoint p a.same a.secret a.last h.own_here;
-      own_there = takes_still h.w.endpoint w.endpoint q b.same b.secret b.last h.own_there;
+      own_here = takes_still h.v.endpoint v.endpoint p a.queues a.same a.secret a.last h.own_here;
+      own_there = takes_still h.w.endpoint w.endpoint q b.queues b.same b.secret b.last h.own_there;
       told_here = a.told ∙ h.told_here;
       told_there = b.told ∙ h.told_there;
     }
@@ -108,11 +111,11 @@ collide : HandshakeLaws → (side : Side) (options : Both Options) (v w : View) 
     → Exchanges options 4 settled between settled' run → SocketRun options run → Joined side options run v w
 collide law sides.A options v w p q moment settled settled' between run g due at counts rest runs =
     both_connect law options v w p q moment settled settled' between run
-    (record { here = g.awaits; there = due; secret_here = g.own_here.secret; secret_there = g.own_there.secret; fit = g.fit; keep = g.keep }) at counts rest runs
+    (record { unheld_here = g.own_here.unheld; unheld_there = g.own_there.unheld; here = g.awaits; there = due; secret_here = g.own_here.secret; secret_there = g.own_there.secret; fit = g.fit; keep = g.keep }) at counts rest runs
 collide law sides.B options v w p q moment settled settled' between run g due at counts rest runs =
     let j : Joined sides.A options run w v =
     both_connect law options w v q p moment settled settled' between run
-    (record { here = due; there = g.awaits; secret_here = g.own_there.secret; secret_there = g.own_here.secret; fit = swap_fit v.endpoint.options w.endpoint.options g.fit; keep = g.keep })
+    (record { unheld_here = g.own_there.unheld; unheld_there = g.own_here.unheld; here = due; there = g.awaits; secret_here = g.own_there.secret; secret_there = g.own_here.secret; fit = swap_fit v.endpoint.options w.endpoint.options g.fit; keep = g.keep })
     at (record { mine = counts.others; others = counts.mine }) rest runs in
     record {
       here = j.there;
@@ -126,7 +129,7 @@ collide law sides.B options v w p q moment settled settled' between run g due at
     }
 
 too : (e : Endpoint) (q : Pair) → RetriesInit e q 1 → TakesOwn e q → AwaitsToo e q
-too e q h own = record { core = h.core; empty = h.empty; pair = h.pair; secret = own.secret; has_secret = own.has_secret; anew = own.anew }
+too e q h own = record { core = h.core; unheld = own.unheld; unpaused = own.unpaused; pair = h.pair; secret = own.secret; has_secret = own.has_secret; anew = own.anew }
 
 abbrev linked_core : Options → Options → Pair → Pair → Core
 linked_core a b p q = open_in established p (new_held p q (negotiated_capabilities (offer_of a) (offer_of b)))
@@ -167,10 +170,10 @@ due_connects law side options v w p q moment others settled settled' between run
 due_connects law side options v w p q moment others settled settled' between run g (too_early is) at counts rest runs =
     let t : AwaitsToo w.endpoint q = too w.endpoint q g.other g.own_there in
     alone law side options v w p q moment settled settled' between run g (view_then w (clock_turn moment w.endpoint ∷ [])) (append-nil w.shown) refl refl
-    (record { core = t.core; empty = t.empty; pair = t.pair; secret = t.secret; has_secret = t.has_secret; anew = t.anew })
+    (record { core = t.core; unheld = t.unheld; unpaused = t.unpaused; pair = t.pair; secret = t.secret; has_secret = t.has_secret; anew = t.anew })
     (subst (λ (os : List Transition). AtOf side options between (begun v p moment) (view_then w os)) is at) counts rest runs
 due_connects law side options v w p q moment others settled settled' between run g (expires due is) at counts rest runs =
-    let awaits : AwaitsInitAck w.endpoint q moment = record { core = g.other.core; t1 = due; empty = g.other.empty; asks = g.other.asks; pair = g.other.pair } in
+    let awaits : AwaitsInitAck w.endpoint q moment = record { core = g.other.core; t1 = due; asks = g.other.asks; pair = g.other.pair } in
     collide law side options v w p q moment settled settled' between run g awaits (subst (λ (os : List Transition). AtOf side options between (begun v p moment) (view_then w os)) is at) counts rest runs
 
 -- ---- whose T1 comes

@@ -37,7 +37,7 @@ abbrev pub view_then : View → List Transition → View
 view_then v turns =
     record { endpoint = after_all v.endpoint turns; shown = v.shown ++ packets_shown v.endpoint.options turns; told = told_then (events_of turns) v.told }
 
-one_before : {P : Type 0} (ys : List (Event P)) (n : ℕ) → told_then ys (suc n) ≡ suc (told_then ys n)
+pub one_before : {P : Type 0} (ys : List (Event P)) (n : ℕ) → told_then ys (suc n) ≡ suc (told_then ys n)
 one_before [] n = refl
 one_before (connected ∷ ys) n = ap suc (one_before ys n)
 one_before (event ∷ ys) n = one_before ys n

@@ -1,6 +1,6 @@
--- Sockets that have sent no message connect, once the network lets a repeated INIT and what follows it through (RFC 9260, section
--- 5.1).
-use Rattle.std.specs.Prelude.{◌≡◌, ◌<◌, ◌^◌, ◌==◌, ◌&&◌, ℕ, suc, false, List, [], ◌∷◌}
+-- Sockets connect, with messages queued or without, once the network lets a repeated INIT and what follows it through (RFC 9260,
+-- section 5.1).
+use Rattle.std.specs.Prelude.{◌≡◌, ◌<◌, ◌^◌, ◌==◌, ◌&&◌, ℕ, suc, false, None, List, [], ◌∷◌}
 use Rattle.dcsctp_spec_lemmas.specs.types.declared.association.Pair.{Pair}
 use Rattle.dcsctp_spec_lemmas.specs.types.declared.options.Options.{Options}
 use Rattle.dcsctp_spec_lemmas.specs.types.declared.schedule.Side.{Side}
@@ -9,12 +9,14 @@ use Rattle.dcsctp_spec_lemmas.specs.spec.Cookie.{Cookie}
 use Rattle.dcsctp_spec_lemmas.specs.spec.endpoint.Endpoint.{Endpoint, Core, closed, cookie_wait, cookie_echoed, open_in}
 use Rattle.dcsctp_spec_lemmas.specs.spec.endpoint.CallTurns.{Transition, events_of}
 use Rattle.dcsctp_spec_lemmas.specs.spec.endpoint.CookieEchoOutcomes.{is_tag_over}
+use Rattle.dcsctp_delivery_directions.specs.sending.Losing.{AreOpen}
 use Rattle.dcsctp_spec_runs.specs.Sockets.{PerformedAct, Both, of_side, endpoint_after, turns_after, SocketRun, acts_of}
 use Rattle.dcsctp_theorem_sockets.specs.Agreement.{AreUsable}
 use Rattle.dcsctp_theorem_sockets.specs.Handshake.{other_side, AreFitting, AreConnected, connections_of_events}
 use Rattle.dcsctp_theorem_progress.specs.Rounds.{counts_shown, LostRounds, QuietRound}
 use Rattle.dcsctp_theorem_progress.specs.LostInits.{Rests, KeepsOptions, AreLinked}
 use Rattle.dcsctp_theorem_progress.specs.Retries.{LeavesRestarts, RetriesT1, RetriesInit, t1_expiry}
+use Rattle.dcsctp_theorem_progress.specs.DataEchoes.{ResendsEcho}
 use Rattle.dcsctp_theorem_progress.specs.Cookies.{HasEchoed, AnswersEcho}
 
 -- It is closed, and there is no tag under which none begins again.
@@ -23,8 +25,10 @@ pub record RestsWithoutTag (e : Endpoint) : Type 0 where
   pub anew : (tag : ℕ) → is_tag_over e closed tag ≡ false
 
 -- It takes a cookie that it makes now with this pair of its own: its secret fits a cookie, it has one, and the tag isn't one under
--- which none begins again.
+-- which none begins again. Nothing is in flight, and no stream is to be reset.
 pub record TakesOwn (e : Endpoint) (p : Pair) : Type 0 where
+  pub unheld : e.queues.transfer ≡ None
+  pub unpaused : AreOpen e.queues.queue.streams
   pub secret : e.secret < 2 ^ 64
   pub has_secret : (e.options.follow_rfc && e.secret == 0) ≡ false
   pub anew : is_tag_over e closed p.tag ≡ false
@@ -37,13 +41,15 @@ pub record RetriesEcho (e f : Endpoint) (cookie : Cookie) (bytes : List ℕ) (mo
   pub other : AnswersEcho e f cookie (t1_expiry e more)
 
 -- One of the two awaits an INIT ACK, with that many restarts of T1 left, and the other is closed; or both await one. Or one awaits a
--- COOKIE ACK: the COOKIE ECHO was lost, and the other is closed; or the COOKIE ACK was, and the other is Established.
+-- COOKIE ACK: the COOKIE ECHO was lost, maybe with data, and the other is closed; or the COOKIE ACK was, and the other is Established.
 pub data MayConnect (more : ℕ) (e f : Endpoint) : Type 0 where
   a_tries : (p : Pair) → RetriesInit e p more → RestsWithoutTag f → MayConnect more e f
   b_tries : (p : Pair) → RetriesInit f p more → RestsWithoutTag e → MayConnect more e f
   both_try : (p q : Pair) → RetriesInit e p more → TakesOwn e p → RetriesInit f q more → TakesOwn f q → MayConnect more e f
   a_echoes : (cookie : Cookie) (bytes : List ℕ) → RetriesEcho e f cookie bytes more → MayConnect more e f
   b_echoes : (cookie : Cookie) (bytes : List ℕ) → RetriesEcho f e cookie bytes more → MayConnect more e f
+  a_resends : (cookie : Cookie) (bytes : List ℕ) → ResendsEcho e f cookie bytes more → MayConnect more e f
+  b_resends : (cookie : Cookie) (bytes : List ℕ) → ResendsEcho f e cookie bytes more → MayConnect more e f
 
 -- how often a socket has told OnConnected once it is Established: once more, unless it was open
 abbrev pub connections_once_open : Core → ℕ → ℕ

@@ -4,6 +4,7 @@ pub mod Retries
 pub mod Cookies
 pub mod Echoes
 pub mod OthersCookies
+pub mod DataEchoes
 pub mod Connecting
 pub mod Heartbeats
 pub mod LossyRounds

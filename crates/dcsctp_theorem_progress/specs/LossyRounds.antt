@@ -14,7 +14,7 @@ use Rattle.dcsctp_spec_runs.specs.Sockets.{PerformedAct, Both, of_side, of_other
 use Rattle.dcsctp_theorem_sockets.specs.Agreement.{AreUsable}
 use Rattle.dcsctp_theorem_sockets.specs.Handshake.{AreFitting}
 use Rattle.dcsctp_theorem_progress.specs.Rounds.{this_endpoint, other_endpoint, counts_shown, ActsFollow, AdvancesBothClocks, QuietRound}
-use Rattle.dcsctp_theorem_progress.specs.LostInits.{KeepsOptions}
+use Rattle.dcsctp_theorem_progress.specs.LostInits.{NothingWaits, KeepsOptions}
 use Rattle.dcsctp_theorem_progress.specs.Retries.{LeavesRestarts, RetriesT1, RetriesInit}
 use Rattle.dcsctp_theorem_progress.specs.Cookies.{HasEchoed, KnowsCookie, AnswersEcho}
 use Rattle.dcsctp_theorem_progress.specs.Connecting.{RestsWithoutTag, HaveConnected}
@@ -58,7 +58,7 @@ LossyRounds options (suc more) earlier run =
 
 -- The one awaits an INIT ACK, and the other is closed; or it awaits a COOKIE ACK. That many restarts of T1 are left.
 pub data IsTrying (more : ℕ) (e f : Endpoint) : Type 0 where
-  still_inits : (p : Pair) → RetriesInit e p more → RestsWithoutTag f → is_exhausted e.options.max_retransmissions e.error_count ≡ false → IsTrying more e f
+  still_inits : (p : Pair) → NothingWaits e f → RetriesInit e p more → RestsWithoutTag f → is_exhausted e.options.max_retransmissions e.error_count ≡ false → IsTrying more e f
   still_echoes : (cookie : Cookie) (bytes : List ℕ) → HasEchoed e f cookie bytes → RetriesT1 e more → KnowsCookie e f cookie → IsTrying more e f
 
 -- If it awaits a COOKIE ACK, T1 expires before any timer of the other, and while the other takes the cookie.

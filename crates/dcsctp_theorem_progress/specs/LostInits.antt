@@ -1,5 +1,5 @@
 -- A lost INIT is made good: T1 expires, and the packets that follow come in turn (RFC 9260, section 5.1).
-use Rattle.std.specs.Prelude.{◌≡◌, ◌<◌, ◌^◌, ◌==◌, ◌&&◌, ℕ, suc, true, false, nat_le, List, ◌∷◌, ◌++◌}
+use Rattle.std.specs.Prelude.{◌≡◌, ◌<◌, ◌^◌, ◌==◌, ◌&&◌, ℕ, suc, true, false, nat_le, None, List, ◌∷◌, ◌++◌}
 use Rattle.std.specs.List.{AllByRecursion}
 use Rattle.dcsctp_spec_lemmas.specs.types.declared.association.Pair.{Pair}
 use Rattle.dcsctp_spec_lemmas.specs.types.declared.options.Options.{Options}
@@ -13,6 +13,7 @@ use Rattle.dcsctp_spec_lemmas.specs.spec.endpoint.CallTurns.{Transition, after_a
 use Rattle.dcsctp_spec_lemmas.specs.spec.endpoint.CookieEchoOutcomes.{is_tag_over}
 use Rattle.dcsctp_spec_lemmas.specs.spec.endpoint.TimeTurns.{deadline_of, has_come, has_restart}
 use Rattle.dcsctp_spec_lemmas.specs.spec.association.HandshakeChanges.{new_held}
+use Rattle.dcsctp_delivery_directions.specs.sending.Losing.{AreOpen}
 use Rattle.dcsctp_spec_runs.specs.Sockets.{PerformedAct, Both, endpoint_after, turns_after, SocketRun}
 use Rattle.dcsctp_theorem_sockets.specs.Agreement.{AreUsable}
 use Rattle.dcsctp_theorem_sockets.specs.Handshake.{AreFitting, connections_of_events}
@@ -26,18 +27,18 @@ pub record DueT1 (e : Endpoint) (moment : ℕ) : Type 0 where
   pub come : has_come moment (deadline_of e.timers.t1) ≡ true
   pub again : has_restart e.timers.t1 ≡ true
 
--- It awaits an INIT ACK, T1 is due at this moment and may restart, no message was queued, and no shutdown asked for.
+-- It awaits an INIT ACK, T1 is due at this moment and may restart, and no shutdown was asked for.
 pub record AwaitsInitAck (e : Endpoint) (p : Pair) (moment : ℕ) : Type 0 where
   pub core : e.core ≡ cookie_wait p
   pub t1 : DueT1 e moment
-  pub empty : e.queues ≡ empty_queues e.options
   pub asks : (e.options.follow_rfc && e.shutdown_asked) ≡ false
   pub pair : FitsPair p
 
--- It is closed, no message was queued, and its secret fits a cookie.
+-- It is closed, so nothing is in flight; no stream is to be reset; and its secret fits a cookie. Messages may be queued.
 pub record Rests (e : Endpoint) : Type 0 where
   pub core : e.core ≡ closed
-  pub empty : e.queues ≡ empty_queues e.options
+  pub unheld : e.queues.transfer ≡ None
+  pub unpaused : AreOpen e.queues.queue.streams
   pub secret : e.secret < 2 ^ 64
 
 -- No pair that these turns draw has the tag of the last association, which none begins under again by the RFC (RFC 9260, section
@@ -45,14 +46,20 @@ pub record Rests (e : Endpoint) : Type 0 where
 abbrev pub DrawsOtherTags : Endpoint → List Transition → Type 0
 DrawsOtherTags e turns = AllByRecursion (λ pair. is_tag_over e closed pair.tag ≡ false) (pairs_of turns)
 
--- It awaits an INIT ACK too, with a secret that fits a cookie, and no message was queued.
+-- It awaits an INIT ACK too, with a secret that fits a cookie. Nothing is in flight, and no stream is to be reset.
 pub record AwaitsToo (e : Endpoint) (q : Pair) : Type 0 where
   pub core : e.core ≡ cookie_wait q
-  pub empty : e.queues ≡ empty_queues e.options
+  pub unheld : e.queues.transfer ≡ None
+  pub unpaused : AreOpen e.queues.queue.streams
   pub pair : FitsPair q
   pub secret : e.secret < 2 ^ 64
   pub has_secret : (e.options.follow_rfc && e.secret == 0) ≡ false
   pub anew : is_tag_over e closed q.tag ≡ false
+
+-- No message was queued at either side.
+pub record NothingWaits (e f : Endpoint) : Type 0 where
+  pub here : e.queues ≡ empty_queues e.options
+  pub there : f.queues ≡ empty_queues f.options
 
 -- The options are those that it was made with: no setting was changed.
 pub record KeepsOptions (options : Options) (e : Endpoint) : Type 0 where
@@ -92,7 +99,7 @@ LostInitsAreMadeGood =
     let turns = turns_after earlier in
     let e = endpoint_after options.a turns.a in
     let f = endpoint_after options.b turns.b in
-    KeepsOptions options.a e → KeepsOptions options.b f → AwaitsInitAck e p moment → Rests f → DrawsOtherTags f o2
+    KeepsOptions options.a e → KeepsOptions options.b f → NothingWaits e f → AwaitsInitAck e p moment → Rests f → DrawsOtherTags f o2
     → SocketRun options (made_good moment (counts_shown options turns) o1 o2 o3 o4 o5 earlier)
     → Connect e f p (o1 ++ (o3 ++ o5)) (o2 ++ o4)
 
@@ -104,6 +111,6 @@ LostInitsOfBothAreMadeGood =
     let turns = turns_after earlier in
     let e = endpoint_after options.a turns.a in
     let f = endpoint_after options.b turns.b in
-    KeepsOptions options.a e → KeepsOptions options.b f → AwaitsInitAck e p moment → AwaitsToo f q
+    KeepsOptions options.a e → KeepsOptions options.b f → NothingWaits e f → AwaitsInitAck e p moment → AwaitsToo f q
     → SocketRun options (made_good moment (counts_shown options turns) o1 o2 o3 o4 o5 earlier)
     → Connect e f p (o1 ++ (o3 ++ o5)) (o2 ++ o4)

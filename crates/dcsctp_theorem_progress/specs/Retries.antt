@@ -3,7 +3,6 @@ use Rattle.std.specs.Prelude.{◌≡◌, ◌≤◌, ◌+◌, ◌&&◌, false, �
 use Rattle.std.specs.Duration.{max_nanos}
 use Rattle.dcsctp_spec_lemmas.specs.types.declared.association.Pair.{Pair}
 use Rattle.dcsctp_spec_lemmas.specs.spec.CookieFits.{FitsPair}
-use Rattle.dcsctp_spec_lemmas.specs.spec.queues.Transfer.{empty_queues}
 use Rattle.dcsctp_spec_lemmas.specs.spec.endpoint.Endpoint.{Endpoint, cookie_wait}
 use Rattle.dcsctp_spec_lemmas.specs.spec.endpoint.Timers.{RunningTimer, continued_timer}
 
@@ -20,10 +19,9 @@ pub record RetriesT1 (e : Endpoint) (more : ℕ) : Type 0 where
   pub clock : e.moment ≤ max_nanos
   pub deadline : timer.deadline ≤ max_nanos
 
--- It awaits an INIT ACK with that many restarts of T1 left, no message was queued, and no shutdown asked for.
+-- It awaits an INIT ACK with that many restarts of T1 left, and no shutdown was asked for. Messages may be queued.
 pub record RetriesInit (e : Endpoint) (p : Pair) (more : ℕ) : Type 0 where
   pub core : e.core ≡ cookie_wait p
-  pub empty : e.queues ≡ empty_queues e.options
   pub asks : (e.options.follow_rfc && e.shutdown_asked) ≡ false
   pub pair : FitsPair p
   pub t1 : RetriesT1 e more

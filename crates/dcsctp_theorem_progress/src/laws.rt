@@ -65,8 +65,8 @@ pub fn lost_inits_of_both_are_made_good()
     cookie_reads_back();
 }
 
-/// Two sockets of which one connects and the other is closed, or of which both connect, after any run in which
-/// neither sent a message. After any number of rounds whose packets are all lost, each of which uses at most a
+/// Two sockets of which one connects and the other is closed, or of which both connect, after any run, with any messages
+/// queued and no stream to be reset. After any number of rounds whose packets are all lost, each of which uses at most a
 /// restart of T1, one quiet round connects them (RFC 9260, sections 5.1 and 5.2.1): both are Established and match,
 /// and each that wasn't open has reported OnConnected once since. So it is where one awaits a COOKIE ACK: the other
 /// is closed and still takes the cookie when T1 expires in the quiet round, or it is Established by the cookie,

@@ -17,6 +17,7 @@ use Rattle.dcsctp_theorem_transfer.specs.Deadlines.{AsksInTime}
 use Rattle.dcsctp_theorem_transfer.specs.Delaying.{AcknowledgesInTime}
 use Rattle.dcsctp_theorem_transfer.specs.Laws.{TransferLaws}
 use Rattle.dcsctp_theorem_transfer.specs.Owing.{OwesInTime}
+use Rattle.dcsctp_theorem_transfer.specs.Packing.{FitsPackets}
 use Rattle.dcsctp_theorem_transfer.specs.Retransmitting.{RunsT3}
 use Rattle.dcsctp_theorem_transfer.specs.Windows.{HoldsPacket}
 use Rattle.dcsctp_theorem_sockets.specs.Handshake.{ConnectThroughout, handshake_acts, connections_of_events, IsConnected, AreConnected, FittingSocketsConnect}
@@ -126,6 +127,9 @@ world_keeps law cookies delivery transfers progress world well =
       windows = λ honest side allow.
           subst (λ (e : Endpoint). HoldsPacket (of_side side options) e.queues.transfer) (sym (run.sides side).endpoint)
           (transfers.windows options run.steps run.run honest side (run.usable side).valid allow);
+      packing = λ honest side.
+          subst (λ (e : Endpoint). FitsPackets (of_side side options) e.queues.transfer) (sym (run.sides side).endpoint)
+          (transfers.packing options run.steps run.run honest side (run.usable side).valid);
       quiet = law.quiet options run.steps run.run;
       each = keeps_promises law transfers options world run;
     }

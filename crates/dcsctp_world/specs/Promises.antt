@@ -13,6 +13,7 @@ use Rattle.dcsctp_theorem_sockets.specs.Deadlines.{RunsT1}
 use Rattle.dcsctp_theorem_transfer.specs.Deadlines.{AsksInTime}
 use Rattle.dcsctp_theorem_transfer.specs.Delaying.{AcknowledgesInTime}
 use Rattle.dcsctp_theorem_transfer.specs.Owing.{OwesInTime}
+use Rattle.dcsctp_theorem_transfer.specs.Packing.{FitsPackets}
 use Rattle.dcsctp_theorem_transfer.specs.Retransmitting.{RunsT3}
 use Rattle.dcsctp_theorem_transfer.specs.Windows.{AllowPacket, HoldsPacket}
 use Rattle.dcsctp_theorem_sockets.specs.Handshake.{AreFitting, ConnectThroughout}
@@ -86,12 +87,14 @@ pub record Promises {R : Type 0} (world : WorldView (Recording R)) : Type 0 wher
   -- A world whose acts are a handshake shows that both are connected.
   pub handshake : ShownHandshakeConnects (options_of world) world
   -- Where one side awaits an INIT ACK and the other is closed, or both await one, or one awaits a COOKIE ACK and the other takes its
-  -- cookie or has it, neither sent a message, and T1 may restart: however many rounds are lost, one that isn't connects sockets that
-  -- fit each other. One that is lost in part does too, or costs a restart. In an honest run the cookie is the other's.
+  -- cookie or has it, and T1 may restart: however many rounds are lost, one that isn't connects sockets that fit each other, also with
+  -- messages queued. One that is lost in part does too, or costs a restart, if none was. In an honest run the cookie is the other's.
   pub connects : ShownRoundsConnect world
   -- In a run without acts from outside the congestion window has room for a packet, if the options begin it so.
   pub windows : AreHonest (acts_of run.steps) → (side : Side) → AllowPacket (of_side side (options_of world))
       → HoldsPacket (of_side side (options_of world)) (of_side side world.sides).socket.view.endpoint.queues.transfer
+  -- In such a run each item that is outstanding fits a packet, so it can be sent again.
+  pub packing : AreHonest (acts_of run.steps) → (side : Side) → FitsPackets (of_side side (options_of world)) (of_side side world.sides).socket.view.endpoint.queues.transfer
   -- Time before the next deadline moves the clock alone, but for a socket that awaits a COOKIE ACK.
   pub quiet : TimeIsQuiet (options_of world) run.steps
   -- What each socket keeps by itself.

@@ -79,7 +79,7 @@ SettlesOnce stream settled old result new = RunsOn stream (λ shown. Settles str
 -- ---- what `settle` does
 
 -- The sockets can connect in one round: one awaits an INIT ACK and the other is closed, or both await one, or one awaits a COOKIE
--- ACK and the other takes its cookie, or is Established by it. T1 may restart, neither sent a message, and no setting was changed.
+-- ACK and the other takes its cookie, or is Established by it. T1 may restart, and no setting was changed.
 pub record CanConnect {R : Type 0} (world : WorldView R) : Type 0 where
   pub fit : AreFitting (options_of world)
   pub keeps_a : KeepsOptions world.sides.a.options world.sides.a.socket.view.endpoint

@@ -99,8 +99,8 @@ impl<R: Rng + Drop> World<R> {
     /// round is lost.
     ///
     /// One round connects two sockets that fit each other, if one awaits an INIT ACK and the other is closed, or both
-    /// await one, T1 may restart, neither sent a message, and no setting was changed (RFC 9260, sections 5.1 and
-    /// 5.2.1): both are Established and crossed, and each has reported OnConnected once more. With
+    /// await one, T1 may restart, and no setting was changed (RFC 9260, sections 5.1 and 5.2.1): both are Established
+    /// and crossed, and each has reported OnConnected once more. Messages may be queued. With
     /// `Options::follow_rfc` a closed one must have had no association before. So it is too if one awaits a COOKIE ACK,
     /// while the other is closed and takes its cookie, or is Established by it and has no timer that is due before T1:
     /// then it reports nothing more (section 5.2.4, D).

@@ -280,7 +280,7 @@ impl<R: Rng + Drop> World<R> {
     /// (sections 5.1 and 5.2.1). In a round both clocks go to the earlier `poll_timeout`, and four times all that was
     /// sent since is delivered, in order. However many rounds are lost, one that isn't leaves both Established and
     /// crossed, each with one OnConnected more. That has premises: one awaits an INIT ACK, and the other is closed or
-    /// awaits one too; neither sent a message, and T1 may restart once more than rounds are lost. Or no round is lost,
+    /// awaits one too; and T1 may restart once more than rounds are lost. Messages may be queued. Or no round is lost,
     /// and one awaits a COOKIE ACK, while the other is closed and takes its cookie.
     pub fn run(&mut self, steps: &[Step]) -> Result<(), SocketFault>
         ensures { RunsSteps R.stream (map step_content steps.now) self.old result self.new }
