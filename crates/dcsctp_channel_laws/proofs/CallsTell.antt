@@ -30,7 +30,7 @@ use Rattle.dcsctp_channel_laws.proofs.BeginsTell.{Keeps, same_tells, tells_to, o
 abbrev life_opened : ℕ → LayerView → ℕ → Life
 life_opened id layer name = if id == name then lasting else life_of_channel layer name
 
-named_tells : (opening : Opening) (negotiated : Option ℕ) (layer : LayerView) → IsOrderly layer → ReportsLives (life_opened layer.named layer) layer [] (named_next opening negotiated layer)
+pub named_tells : (opening : Opening) (negotiated : Option ℕ) (layer : LayerView) → IsOrderly layer → ReportsLives (life_opened layer.named layer) layer [] (named_next opening negotiated layer)
 named_tells opening negotiated layer a =
     record { more = []; behind = sym (append-nil layer.notices); lives = λ n. lives n (cases_eq layer.named n); apart = apart }
   where
@@ -87,7 +87,7 @@ opens_tell opening negotiated (Some refusal) (Err error) old new made a = tells_
 -- ---- a message is sent
 
 -- the streams have the same channels
-same_slots : (streams others : List (ℕ × HeldStream)) (names : List (ℕ × ℕ)) (waiting : List WaitingChannel) (named : ℕ) → ((q : ℕ) → slot_of (entry_numbered q others) ≡ slot_of (entry_numbered q streams)) → AreRising others
+pub same_slots : (streams others : List (ℕ × HeldStream)) (names : List (ℕ × ℕ)) (waiting : List WaitingChannel) (named : ℕ) → ((q : ℕ) → slot_of (entry_numbered q others) ≡ slot_of (entry_numbered q streams)) → AreRising others
     → IsInOrder streams names waiting named → IsInOrder others names waiting named
 same_slots streams others names waiting named same rise a =
     record {
@@ -101,7 +101,7 @@ same_slots streams others names waiting named same rise a =
       waits_named = a.waits_named;
     }
 
-counted_slots : (number bytes : ℕ) (held : HeldStream) (streams : List (ℕ × HeldStream)) → entry_numbered number streams ≡ Some held → (q : ℕ) → slot_of (entry_numbered q (entry_put number (counts_sent bytes held) streams)) ≡ slot_of (entry_numbered q streams)
+pub counted_slots : (number bytes : ℕ) (held : HeldStream) (streams : List (ℕ × HeldStream)) → entry_numbered number streams ≡ Some held → (q : ℕ) → slot_of (entry_numbered q (entry_put number (counts_sent bytes held) streams)) ≡ slot_of (entry_numbered q streams)
 counted_slots number bytes held streams is q = by (cases_eq q number)
   where
     here : slot_of (entry_numbered number (entry_put number (counts_sent bytes held) streams)) ≡ slot_of (entry_numbered number streams)
@@ -112,7 +112,7 @@ counted_slots number bytes held streams is q = by (cases_eq q number)
     by (inr apart) = ap slot_of (put_apart q number (counts_sent bytes held) streams apart)
 
 -- an open channel's stream is in use
-open_is : (layer : LayerView) (found : ℕ × HeldStream) (name : ℕ) → open_stream layer name ≡ Some found → held_stream_numbered layer found.0 ≡ Some found.1
+pub open_is : (layer : LayerView) (found : ℕ × HeldStream) (name : ℕ) → open_stream layer name ≡ Some found → held_stream_numbered layer found.0 ≡ Some found.1
 open_is layer found name is = of_stream (stream_of_name layer name) is
   where
     of_closing : (number : ℕ) (held : HeldStream) → held_stream_numbered layer number ≡ Some held → (closing : Bool) → stream_unless_closing closing number held ≡ Some found → held_stream_numbered layer found.0 ≡ Some found.1
@@ -144,7 +144,7 @@ sends_tell (Some found) name content answer old new is made a =
 
 -- ---- a channel is closed
 
-waiting_closes : (name : ℕ) (layer : LayerView) → Keeps layer (layer_after_close None name layer)
+pub waiting_closes : (name : ℕ) (layer : LayerView) → Keeps layer (layer_after_close None name layer)
 waiting_closes name layer a =
     record { more = ends_waiting name layer.waiting; behind = refl; lives = λ n. lives n (cases_eq name n); apart = apart }
   where

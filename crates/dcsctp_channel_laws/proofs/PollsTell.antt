@@ -49,7 +49,7 @@ rows_tell law (number ∷ numbers) input layer not gives a =
 quiet_tells : (notice : ChannelNotice) (layer : LayerView) → ((n : ℕ) → news_of_channel n notice ≡ None) → Keeps layer (with_notices (notice ∷ []) layer)
 quiet_tells notice layer quiet a = record { more = notice ∷ []; behind = refl; lives = λ n. not_told n notice [] (life_of_channel layer n) (life_of_channel layer n) (quiet n) refl; apart = a }
 
-waiting_lost_tells : (layer : LayerView) → Keeps layer (waiting_lost layer)
+pub waiting_lost_tells : (layer : LayerView) → Keeps layer (waiting_lost layer)
 waiting_lost_tells layer a =
     record { more = lost_waiting layer.waiting; behind = refl; lives = λ n. lives n (is_waiting n layer.waiting) refl; apart = apart }
   where

@@ -20,10 +20,10 @@ pub past_head : (waits : WaitingChannel) (rest : List WaitingChannel) (n : ℕ) 
 past_head waits rest n apart = ap (λ (b : Bool). if b then true else is_waiting n rest) (ne_eqb waits.name n apart)
 
 -- one that doesn't wait isn't the first, and isn't behind it
-not_head : (waits : WaitingChannel) (rest : List WaitingChannel) (n : ℕ) → is_waiting n (waits ∷ rest) ≡ false → waits.name ≡ n → ⊥
+pub not_head : (waits : WaitingChannel) (rest : List WaitingChannel) (n : ℕ) → is_waiting n (waits ∷ rest) ≡ false → waits.name ≡ n → ⊥
 not_head waits rest n is same = true≢false (sym (head_waits waits rest n same) ∙ is)
 
-not_behind : (waits : WaitingChannel) (rest : List WaitingChannel) (n : ℕ) → is_waiting n (waits ∷ rest) ≡ false → is_waiting n rest ≡ false
+pub not_behind : (waits : WaitingChannel) (rest : List WaitingChannel) (n : ℕ) → is_waiting n (waits ∷ rest) ≡ false → is_waiting n rest ≡ false
 not_behind waits rest n is = sym (past_head waits rest n (not_head waits rest n is)) ∙ is
 
 pub waits_behind : (waits : WaitingChannel) (rest : List WaitingChannel) (n : ℕ) → is_waiting n rest ≡ true → is_waiting n (waits ∷ rest) ≡ true
@@ -80,7 +80,7 @@ without_itself name (x ∷ xs) (first, rest) = by (x.name == name) refl (without
     by true is more = subst (λ (m : ℕ). is_waiting m xs ≡ false) (eqb-true x.name name is) first
     by false is more = past_head x (without_waiting name xs) name (eqb-false x.name name is) ∙ more
 
-still_not : (name : ℕ) (xs : List WaitingChannel) (n : ℕ) → WaitApart xs → is_waiting n xs ≡ false → is_waiting n (without_waiting name xs) ≡ false
+pub still_not : (name : ℕ) (xs : List WaitingChannel) (n : ℕ) → WaitApart xs → is_waiting n xs ≡ false → is_waiting n (without_waiting name xs) ≡ false
 still_not name xs n apart is = by (cases_eq name n)
   where
     by : (name ≡ n) ⊎ (name ≡ n → ⊥) → is_waiting n (without_waiting name xs) ≡ false

@@ -1,5 +1,5 @@
 -- Channels get their streams, and their OPENs are sent; events of the socket are handled.
-use Rattle.std.proofs.Common.{◌≡◌, ◌<◌, ◌≤◌, ◌^◌, ℕ, ◌+◌, Bool, true, false, nat_lt, Option, Some, None, Result, Ok, Err, List, [], ◌∷◌, ◌++◌, length, refl, sym, ap, subst, ◌∙◌, arith}
+use Rattle.std.proofs.Common.{◌≡◌, ◌<◌, ◌^◌, ℕ, ◌+◌, Bool, true, false, Option, Some, None, Result, Ok, Err, List, [], ◌∷◌, ◌++◌, length, refl, sym, ap, subst, ◌∙◌, inl, arith}
 use Rattle.std.proofs.lemmas.Bool.{true≢false}
 use Rattle.std.proofs.lemmas.List.{append-nil}
 use Rattle.dcsctp_spec_runs.specs.Laws.{SocketsKeepOptions}
@@ -12,19 +12,22 @@ use Rattle.dcsctp_channel_calls.specs.api.spec.endpoint.Event.{Event, sent, erro
 use Rattle.dcsctp_channel_calls.specs.messages.channel_spec.declared.types.ChannelEnd.TheVariants.{NoStream}
 use Rattle.dcsctp_channel_calls.specs.messages.channel_spec.declared.types.Delivery.{Delivery}
 use Rattle.dcsctp_channel_calls.specs.messages.channel_spec.declared.types.Role.{Role}
-use Rattle.dcsctp_channel_calls.specs.messages.channel_spec.Slots.{SlotInput, opens, agrees, ended, was_performed, was_refused, peer_resets, association_ends}
+use Rattle.dcsctp_channel_calls.specs.messages.channel_spec.Slots.{free, SlotInput, opens, agrees, ended}
 use Rattle.dcsctp_channel_calls.specs.declared.channel.HeldStream.{HeldStream}
 use Rattle.dcsctp_channel_calls.specs.Calls.{OnlySocket, on_layer}
-use Rattle.dcsctp_channel_calls.specs.Events.{rows_taken, reset_numbers, lost_waiting, streams_lost, waiting_lost, channels_ended, low_notice, low_notices, connection_made, streams_reset, amount_reported, HandlesEvent, HandlesEventUnlessEnded}
-use Rattle.dcsctp_channel_calls.specs.Opening.{is_taken, ReadiesStream, opening_said, view_after_open, Agrees, without_stream, BeginsOn, channels_waiting, BeginsInTurn, none_waits, begins, waits_on, BeginsWhereKnown, may_begin, BeginsWaiting}
+use Rattle.dcsctp_channel_calls.specs.Events.{rows_taken}
+use Rattle.dcsctp_channel_calls.specs.Opening.{is_taken, GetsStream, ReadiesStream, opening_said, view_after_open, Agrees, without_stream, BeginsOn, channels_waiting, BeginsInTurn, none_waits, begins, waits_on, BeginsWhereKnown, may_begin, BeginsWaiting}
 use Rattle.dcsctp_channel_calls.specs.Sending.{plainly, control_message, row_taken_if_held}
-use Rattle.dcsctp_channel_calls.specs.View.{WaitingChannel, ChannelNotice, of_channel, association_made, amount_low, association_over, LayerView, ChannelsView, held_stream_numbered, row_taken, packets_of_layer_events, view_with_events}
-use Rattle.std.specs.Map.{keys_of}
-use Rattle.dcsctp_channel_runs.specs.Acts.{AreByteValues, OpenedChannel, packets_given, channels_reported, contents_reported}
-use Rattle.dcsctp_channel_runs.proofs.Said.{none_sent, an_open, none_heard, Wait, same_le, WaitsFor, WaitsToOpen, wait_from, wait_within}
-use Rattle.dcsctp_channel_runs.proofs.Moves.{Tells, tells_nothing, tells_then, Moves, moves_then, unmoved, Silently, silently_same, silently_then, layer_moves, silent_moves, stays}
+use Rattle.dcsctp_channel_calls.specs.View.{WaitingChannel, ChannelNotice, of_channel, LayerView, ChannelsView, held_stream_numbered, slot_numbered, row_taken, packets_of_layer_events, view_with_events}
+use Rattle.dcsctp_channel_runs.specs.Acts.{AreByteValues, OpenedChannel}
+use Rattle.dcsctp_channel_runs.proofs.Said.{none_sent, an_open, none_heard, Wait, same_le, WaitsFor, WaitsToOpen, wait_from}
+use Rattle.dcsctp_channel_runs.proofs.Moves.{Moves, moves_then, unmoved, Silently, silently_same, silently_then, layer_moves, stays}
+use Rattle.dcsctp_channel_runs.proofs.Notices.{Tells, tells_nothing}
+use Rattle.dcsctp_channel_runs.proofs.Streams.{Keeping, same_keeps}
+use Rattle.dcsctp_channel_runs.proofs.Naming.{row_keeping, begun_noted, gets_free, ends_keeping}
+use Rattle.dcsctp_channel_runs.proofs.SlotNames.{names_none}
 use Rattle.dcsctp_channel_runs.proofs.Rows.{brings_nothing, row_tells, tells_more}
-use Rattle.dcsctp_channel_runs.proofs.Sockets.{close_moves, readies_moves, send_moves}
+use Rattle.dcsctp_channel_runs.proofs.Sockets.{readies_moves, send_moves}
 
 -- ---- packets among events
 
@@ -46,27 +49,6 @@ layer_packets_are (lifecycle_message_maybe_expired id ∷ events) = layer_packet
 layer_packets_are (lifecycle_message_expired id ∷ events) = layer_packets_are events
 layer_packets_are (lifecycle_message_delivered id ∷ events) = layer_packets_are events
 layer_packets_are (lifecycle_end id ∷ events) = layer_packets_are events
-
-lost_channels : (waiting : List WaitingChannel) → channels_reported (lost_waiting waiting) ≡ []
-lost_channels [] = refl
-lost_channels (waits ∷ rest) = lost_channels rest
-
-lost_contents : (waiting : List WaitingChannel) → contents_reported (lost_waiting waiting) ≡ []
-lost_contents [] = refl
-lost_contents (waits ∷ rest) = lost_contents rest
-
-lost_packets : (waiting : List WaitingChannel) → packets_given (lost_waiting waiting) ≡ []
-lost_packets [] = refl
-lost_packets (waits ∷ rest) = lost_packets rest
-
-lows_tell : (before : List ChannelNotice) (name : Option ℕ) (has_sent : Bool) → Tells [] [] [] before (before ++ low_notice name has_sent)
-lows_tell before None has_sent = tells_more before [] [] [] refl refl refl
-lows_tell before (Some name) true = tells_more before (amount_low name ∷ []) [] [] refl refl refl
-lows_tell before (Some name) false = tells_more before [] [] [] refl refl refl
-
-lows_held : (before : List ChannelNotice) (held : Option HeldStream) → Tells [] [] [] before (before ++ low_notices held)
-lows_held before None = tells_more before [] [] [] refl refl refl
-lows_held before (Some held) = lows_tell before held.stream.name (nat_lt 0 held.traffic.messages_sent)
 
 not_taken : (answer : Result (Unit {0}) SendError) → false ≡ is_taken answer → (refusal : SendError) × (answer ≡ Err refusal)
 not_taken (Ok done) is = absurd (true≢false (sym is))
@@ -94,7 +76,7 @@ module _ (keep : SocketsKeepOptions) (side : Side) (packets : List (List ℕ)) (
 
   pub gather_moves : (low : ℕ) (view : ChannelsView) → Wait all low view.layer.waiting view.layer.named → Moves keep side packets all [] low [] view [] (view_with_events view)
   gather_moves low view waits =
-      unmoved keep side packets all [] low view [] (view_with_events view) [] [] refl (gathered_left view) waits none_heard (tells_nothing view.layer.notices)
+      unmoved keep side packets all [] low view [] (view_with_events view) [] [] [] (same_keeps view.layer (view_with_events view).layer refl refl refl refl) (λ orderly. tt) refl (gathered_left view) waits none_heard (tells_nothing view.layer.notices)
 
   -- the socket makes a call, and its events are taken over
   pub only_moves : (low : ℕ) (Makes : UserView → Type 0) (old new : ChannelsView) → (only : OnlySocket Makes old new)
@@ -106,37 +88,42 @@ module _ (keep : SocketsKeepOptions) (side : Side) (packets : List (List ℕ)) (
 
   -- ---- rows
 
-  pub row_silently : (number : ℕ) (delivery : Delivery) (input : SlotInput) (layer : LayerView) → brings_nothing input ≡ true → Silently keep side packets all layer (row_taken number delivery input layer)
-  row_silently number delivery input layer none = record { packets_stay = refl; waiting = refl; named = refl; tells = row_tells number delivery input layer none }
+  pub row_silently : (number : ℕ) (delivery : Delivery) (input : SlotInput) (layer : LayerView) → brings_nothing input ≡ true → names_none input ≡ true
+      → Silently keep side packets all layer (row_taken number delivery input layer)
+  row_silently number delivery input layer none names =
+      record { packets_stay = refl; waiting = refl; named = refl; keeping = row_keeping number delivery input layer names; tells = row_tells number delivery input layer none }
 
-  pub held_silently : (held : Option HeldStream) (number : ℕ) (input : SlotInput) (layer : LayerView) → brings_nothing input ≡ true
+  pub held_silently : (held : Option HeldStream) (number : ℕ) (input : SlotInput) (layer : LayerView) → brings_nothing input ≡ true → names_none input ≡ true
       → Silently keep side packets all layer (row_taken_if_held held number input layer)
-  held_silently None number input layer none = silently_same keep side packets all layer layer refl refl refl refl
-  held_silently (Some held) number input layer none = row_silently number held.delivery input layer none
+  held_silently None number input layer none names = silently_same keep side packets all layer layer refl refl refl refl refl refl
+  held_silently (Some held) number input layer none names = row_silently number held.delivery input layer none names
 
-  rows_silently : (numbers : List ℕ) (input : SlotInput) (layer : LayerView) → brings_nothing input ≡ true → Silently keep side packets all layer (rows_taken numbers input layer)
-  rows_silently [] input layer none = silently_same keep side packets all layer layer refl refl refl refl
-  rows_silently (number ∷ numbers) input layer none =
+  pub rows_silently : (numbers : List ℕ) (input : SlotInput) (layer : LayerView) → brings_nothing input ≡ true → names_none input ≡ true
+      → Silently keep side packets all layer (rows_taken numbers input layer)
+  rows_silently [] input layer none names = silently_same keep side packets all layer layer refl refl refl refl refl refl
+  rows_silently (number ∷ numbers) input layer none names =
       let next : LayerView = row_taken_if_held (held_stream_numbered layer number) number input layer in
-      silently_then keep side packets all layer next (rows_taken numbers input next) (held_silently (held_stream_numbered layer number) number input layer none) (rows_silently numbers input next none)
+      silently_then keep side packets all layer next (rows_taken numbers input next) (held_silently (held_stream_numbered layer number) number input layer none names) (rows_silently numbers input next none names)
 
   -- ---- a channel begins
 
   -- Its OPEN was sent.
-  sent_moves : (low number : ℕ) (waits : WaitingChannel) (rest : List WaitingChannel) (old new : ChannelsView) (prepared : UserView) → old.layer.waiting ≡ waits ∷ rest
+  sent_moves : (low number : ℕ) (waits : WaitingChannel) (rest : List WaitingChannel) (old new : ChannelsView) (prepared : UserView) → old.layer.waiting ≡ waits ∷ rest → slot_numbered old.layer number ≡ free
       → ReadiesStream number waits.delivery.priority old.below prepared → WaitsToOpen all waits → SendsMessage (control_message number waits.payload) plainly prepared (Ok (Ok tt)) new.below
       → new.layer ≡ row_taken number waits.delivery (opens waits.name (opening_said waits.payload)) (channels_waiting rest old.layer)
       → Wait all low old.layer.waiting old.layer.named → Moves keep side packets all [] low [] old [] new
-  sent_moves low number waits rest old new prepared is readies wanted sends row wait =
+  sent_moves low number waits rest old new prepared is is_free readies wanted sends row wait =
       let ready : ChannelsView = record old { below = prepared } in
       let first = readies_moves keep side packets all low number waits.delivery.priority old prepared readies wait in
       let now : Wait all first.steps.high (waits ∷ rest) old.layer.named = subst (λ (l : List WaitingChannel). Wait all first.steps.high l old.layer.named) is first.waits in
       let channel : OpenedChannel = record { name = waits.name; opening = wanted.opening } in
       let after : LayerView = row_taken number waits.delivery (opens waits.name (opening_said waits.payload)) (channels_waiting rest old.layer) in
       moves_then keep side packets all [] low old ready [] new first
-      (send_moves keep side packets all first.steps.high (waits.name + 1) (control_message number waits.payload) plainly (channel ∷ []) [] ready new (Ok tt)
-      (open_fits all number waits readies.fits wanted) sends
-      (an_open (control_message number waits.payload) channel [] [] [] (record { ppid = refl; payload = wanted.payload; fits = wanted.good.fits }) none_sent)
+      (send_moves keep side packets all first.steps.high (waits.name + 1) (control_message number waits.payload) plainly (channel ∷ []) [] ((waits.name, number) ∷ []) ready new (Ok tt)
+      (open_fits all number waits readies.fits wanted)
+      (subst (λ (l : LayerView). Keeping ((waits.name, number) ∷ []) old.layer l) (sym row)
+      (begun_noted number waits.delivery (opens waits.name (opening_said waits.payload)) old.layer waits rest is is_free refl)) sends
+      (an_open (control_message number waits.payload) channel [] [] [] (record { ppid = refl; payload = wanted.payload; fits = wanted.good.fits }) (inl refl) tt none_sent)
       (now.0, wanted.opened, same_le (waits.name + 1))
       (ap (λ (l : LayerView). l.packets) row)
       (subst (λ (l : LayerView). Wait all (waits.name + 1) l.waiting l.named) (sym row) now.2)
@@ -146,14 +133,14 @@ module _ (keep : SocketsKeepOptions) (side : Side) (packets : List (List ℕ)) (
   -- The socket refused it, and the channel waits on.
   refused_moves : (low number : ℕ) (waits : WaitingChannel) (old new : ChannelsView) (prepared : UserView) (refusal : SendError)
       → ReadiesStream number waits.delivery.priority old.below prepared → WaitsToOpen all waits → SendsMessage (control_message number waits.payload) plainly prepared (Ok (Err refusal)) new.below
-      → new.layer.packets ≡ old.layer.packets → new.layer.waiting ≡ old.layer.waiting → new.layer.named ≡ old.layer.named → new.layer.notices ≡ old.layer.notices
-      → Wait all low old.layer.waiting old.layer.named → Moves keep side packets all [] low [] old [] new
-  refused_moves low number waits old new prepared refusal readies wanted sends left waiting named same wait =
+      → new.layer.packets ≡ old.layer.packets → new.layer.streams ≡ old.layer.streams → new.layer.names ≡ old.layer.names → new.layer.waiting ≡ old.layer.waiting → new.layer.named ≡ old.layer.named
+      → new.layer.notices ≡ old.layer.notices → Wait all low old.layer.waiting old.layer.named → Moves keep side packets all [] low [] old [] new
+  refused_moves low number waits old new prepared refusal readies wanted sends left streams names waiting named same wait =
       let ready : ChannelsView = record old { below = prepared } in
       let first = readies_moves keep side packets all low number waits.delivery.priority old prepared readies wait in
       moves_then keep side packets all [] low old ready [] new first
-      (send_moves keep side packets all first.steps.high first.steps.high (control_message number waits.payload) plainly [] [] ready new (Err refusal)
-      (open_fits all number waits readies.fits wanted) sends none_sent (same_le first.steps.high) left
+      (send_moves keep side packets all first.steps.high first.steps.high (control_message number waits.payload) plainly [] [] [] ready new (Err refusal)
+      (open_fits all number waits readies.fits wanted) (same_keeps old.layer new.layer streams names waiting named) sends none_sent (same_le first.steps.high) left
       (subst (λ (l : List WaitingChannel). Wait all first.steps.high l new.layer.named) (sym waiting)
       (subst (λ (n : ℕ). Wait all first.steps.high old.layer.waiting n) (sym named) first.waits))
       (subst (λ (l : List ChannelNotice). Tells [] [] [] old.layer.notices l) (sym same) (tells_nothing old.layer.notices)))
@@ -167,32 +154,35 @@ module _ (keep : SocketsKeepOptions) (side : Side) (packets : List (List ℕ)) (
   ends_moves low waits rest old new is gone wait =
       let over : ChannelsView = on_layer (without_stream waits.name) (on_layer (channels_waiting rest) old) in
       subst (λ (v : ChannelsView). Moves keep side packets all [] low [] old [] v) (sym gone)
-      (layer_moves keep side packets all low old over refl refl (tells_more old.layer.notices (of_channel (ended waits.name NoStream) ∷ []) [] [] refl refl refl)
+      (layer_moves keep side packets all low old over (ends_keeping old.layer waits rest is) refl refl (tells_more old.layer.notices (of_channel (ended waits.name NoStream) ∷ []) [] [] refl refl refl)
       (behind_first low waits rest old.layer.named (subst (λ (l : List WaitingChannel). Wait all low l old.layer.named) is wait)))
 
-  agreed_moves : (low number : ℕ) (waits : WaitingChannel) (rest : List WaitingChannel) (old new : ChannelsView) → old.layer.waiting ≡ waits ∷ rest
+  agreed_moves : (low number : ℕ) (waits : WaitingChannel) (rest : List WaitingChannel) (old new : ChannelsView) → old.layer.waiting ≡ waits ∷ rest → slot_numbered old.layer number ≡ free
       → Agrees number waits (on_layer (channels_waiting rest) old) new → Wait all low old.layer.waiting old.layer.named → Moves keep side packets all [] low [] old [] new
-  agreed_moves low number waits rest old new is made wait =
+  agreed_moves low number waits rest old new is is_free made wait =
       let ready : ChannelsView = record old { below = made.prepared } in
       let first = readies_moves keep side packets all low number waits.delivery.priority old made.prepared made.prepares wait in
       let after : ChannelsView = record { below = made.prepared; layer = row_taken number waits.delivery (agrees waits.name) (channels_waiting rest old.layer) } in
       subst (λ (v : ChannelsView). Moves keep side packets all [] low [] old [] v) (sym made.is)
       (moves_then keep side packets all [] low old ready [] after first
-      (layer_moves keep side packets all first.steps.high ready after refl refl (row_tells number waits.delivery (agrees waits.name) (channels_waiting rest old.layer) refl)
-      (behind_first first.steps.high waits rest old.layer.named (subst (λ (l : List WaitingChannel). Wait all first.steps.high l old.layer.named) is first.waits))))
+      (unmoved keep side packets all [] first.steps.high ready [] after [] [] ((waits.name, number) ∷ [])
+      (begun_noted number waits.delivery (agrees waits.name) old.layer waits rest is is_free refl) (λ orderly. tt) refl refl
+      (behind_first first.steps.high waits rest old.layer.named (subst (λ (l : List WaitingChannel). Wait all first.steps.high l old.layer.named) is first.waits)) none_heard
+      (row_tells number waits.delivery (agrees waits.name) (channels_waiting rest old.layer) refl)))
 
   -- The first that waits begins, or is over.
-  begun_moves : (low : ℕ) (waits : WaitingChannel) (rest : List WaitingChannel) (negotiated stream : Option ℕ) (old new : ChannelsView) → old.layer.waiting ≡ waits ∷ rest
-      → WaitsFor all negotiated waits → BeginsOn waits negotiated stream true (on_layer (channels_waiting rest) old) new → Wait all low old.layer.waiting old.layer.named
+  begun_moves : (low : ℕ) (waits : WaitingChannel) (rest : List WaitingChannel) (role : Role) (negotiated stream : Option ℕ) (old new : ChannelsView) → old.layer.waiting ≡ waits ∷ rest
+      → WaitsFor all negotiated waits → GetsStream role (on_layer (channels_waiting rest) old) negotiated stream → BeginsOn waits negotiated stream true (on_layer (channels_waiting rest) old) new → Wait all low old.layer.waiting old.layer.named
       → Moves keep side packets all [] low [] old [] new
-  begun_moves low waits rest None None old new is wanted made wait = ends_moves low waits rest old new is made.1 wait
-  begun_moves low waits rest (Some agreed) None old new is wanted made wait = ends_moves low waits rest old new is made.1 wait
-  begun_moves low waits rest (Some agreed) (Some number) old new is wanted made wait = agreed_moves low number waits rest old new is made.1 wait
-  begun_moves low waits rest None (Some number) old new is wanted made wait =
+  begun_moves low waits rest role None None old new is wanted gets made wait = ends_moves low waits rest old new is made.1 wait
+  begun_moves low waits rest role (Some agreed) None old new is wanted gets made wait = ends_moves low waits rest old new is made.1 wait
+  begun_moves low waits rest role (Some agreed) (Some number) old new is wanted gets made wait =
+      agreed_moves low number waits rest old new is (gets_free role (on_layer (channels_waiting rest) old) (Some agreed) number gets) made.1 wait
+  begun_moves low waits rest role None (Some number) old new is wanted gets made wait =
       let taken = was_taken made.answer made.begins in
       let new_is : new ≡ view_after_open (Ok tt) number waits made.below (channels_waiting rest old.layer) =
       made.is ∙ ap (λ (a : Result (Unit {0}) SendError). view_after_open a number waits made.below (channels_waiting rest old.layer)) taken in
-      sent_moves low number waits rest old new made.prepared is made.prepares wanted
+      sent_moves low number waits rest old new made.prepared is (gets_free role (on_layer (channels_waiting rest) old) None number gets) made.prepares wanted
       (subst (λ (a : Result (Unit {0}) SendError). SendsMessage (control_message number waits.payload) plainly made.prepared (Ok a) new.below) taken
       (subst (λ (u : UserView). SendsMessage (control_message number waits.payload) plainly made.prepared (Ok made.answer) u) (sym (ap (λ (v : ChannelsView). v.below) new_is)) made.sends))
       (ap (λ (v : ChannelsView). v.layer) new_is) wait
@@ -215,6 +205,8 @@ module _ (keep : SocketsKeepOptions) (side : Side) (packets : List (List ℕ)) (
       (subst (λ (a : Result (Unit {0}) SendError). SendsMessage (control_message number waits.payload) plainly made.prepared (Ok a) new.below) refused.1
       (subst (λ (u : UserView). SendsMessage (control_message number waits.payload) plainly made.prepared (Ok made.answer) u) (sym (ap (λ (v : ChannelsView). v.below) new_is)) made.sends))
       (ap (λ (v : ChannelsView). v.layer.packets) new_is)
+      (ap (λ (v : ChannelsView). v.layer.streams) new_is)
+      (ap (λ (v : ChannelsView). v.layer.names) new_is)
       (ap (λ (v : ChannelsView). v.layer.waiting) new_is ∙ sym is)
       (ap (λ (v : ChannelsView). v.layer.named) new_is)
       (ap (λ (v : ChannelsView). v.layer.notices) new_is) wait
@@ -226,7 +218,7 @@ module _ (keep : SocketsKeepOptions) (side : Side) (packets : List (List ℕ)) (
   turns_move : (role : Role) (new : ChannelsView) (low : ℕ) (old : ChannelsView) → Wait all low old.layer.waiting old.layer.named → BeginsInTurn role new old → Moves keep side packets all [] low [] old [] new
   turns_move role new low _ wait (none_waits old none is) = stays keep side packets all low old new is wait
   turns_move role new low _ wait (begins old between waits rest is first others) =
-      let begun = begun_moves low waits rest waits.negotiated first.stream old between is (first_opened low waits rest old.layer.waiting old.layer.named is wait) first.begins wait in
+      let begun = begun_moves low waits rest role waits.negotiated first.stream old between is (first_opened low waits rest old.layer.waiting old.layer.named is wait) first.gets first.begins wait in
       moves_then keep side packets all [] low old between [] new begun (turns_move role new begun.steps.high between begun.waits others)
   turns_move role new low _ wait (waits_on old between waits rest is first back) =
       waiting_on_moves low waits rest waits.negotiated first.stream old between new is (first_opened low waits rest old.layer.waiting old.layer.named is wait) first.begins back wait
@@ -240,75 +232,3 @@ module _ (keep : SocketsKeepOptions) (side : Side) (packets : List (List ℕ)) (
 
   pub waiting_moves : (low : ℕ) (old new : ChannelsView) → Wait all low old.layer.waiting old.layer.named → BeginsWaiting old new → Moves keep side packets all [] low [] old [] new
   waiting_moves low old new wait begun = known_moves low (may_begin old.layer) old.layer.role old new wait begun
-
-  -- ---- the association's end
-
-  streams_lost_silently : (layer : LayerView) → Silently keep side packets all layer (streams_lost layer)
-  streams_lost_silently layer =
-      let over : LayerView = record layer { over = true; connected = false } in
-      silently_then keep side packets all layer over (streams_lost layer) (silently_same keep side packets all layer over refl refl refl refl)
-      (rows_silently (keys_of layer.streams) association_ends over refl)
-
-  lost_tells : (layer : LayerView) → Tells [] [] [] layer.notices (waiting_lost layer).notices
-  lost_tells layer = tells_more layer.notices (lost_waiting layer.waiting) [] [] (lost_channels layer.waiting) (lost_contents layer.waiting) (lost_packets layer.waiting)
-
-  ended_tells : (layer : LayerView) → Tells [] [] [] layer.notices (channels_ended layer).notices
-  ended_tells layer =
-      let lost : LayerView = streams_lost layer in
-      tells_then [] [] [] [] [] layer.notices (waiting_lost lost).notices (channels_ended layer).notices
-      (tells_then [] [] [] [] [] layer.notices lost.notices (waiting_lost lost).notices (streams_lost_silently layer).tells (lost_tells lost))
-      (tells_more (waiting_lost lost).notices (association_over ∷ []) [] [] refl refl refl)
-
-  pub ended_moves : (low : ℕ) (old : ChannelsView) → Wait all low old.layer.waiting old.layer.named → Moves keep side packets all [] low [] old [] (on_layer channels_ended old)
-  ended_moves low old wait =
-      let lost = streams_lost_silently old.layer in
-      layer_moves keep side packets all low old (on_layer channels_ended old) refl lost.packets_stay (ended_tells old.layer)
-      (subst (λ (n : ℕ). low ≤ n) (sym lost.named) (wait_within all low old.layer.waiting old.layer.named wait))
-
-  -- ---- an event
-
-  becomes_moves : (low : ℕ) (becomes : LayerView → LayerView) (old new : ChannelsView) → Silently keep side packets all old.layer (becomes old.layer) → new ≡ on_layer becomes old
-      → Wait all low old.layer.waiting old.layer.named → Moves keep side packets all [] low [] old [] new
-  becomes_moves low becomes old new silently is wait =
-      subst (λ (v : ChannelsView). Moves keep side packets all [] low [] old [] v) (sym is) (silent_moves keep side packets all low old (on_layer becomes old) refl silently wait)
-
-  -- what this makes of the layer, and then channels begin
-  pub then_begins : (low : ℕ) (becomes : LayerView → LayerView) (old new : ChannelsView) → Silently keep side packets all old.layer (becomes old.layer) → BeginsWaiting (on_layer becomes old) new
-      → Wait all low old.layer.waiting old.layer.named → Moves keep side packets all [] low [] old [] new
-  then_begins low becomes old new silently begun wait =
-      let first = silent_moves keep side packets all low old (on_layer becomes old) refl silently wait in
-      moves_then keep side packets all [] low old (on_layer becomes old) [] new first (waiting_moves first.steps.high (on_layer becomes old) new first.waits begun)
-
-  connected_silently : (layer : LayerView) → Silently keep side packets all layer (connection_made layer)
-  connected_silently layer = record { packets_stay = refl; waiting = refl; named = refl; tells = tells_more layer.notices (association_made ∷ []) [] [] refl refl refl }
-
-  reported_silently : (number : ℕ) (layer : LayerView) → Silently keep side packets all layer (amount_reported number layer)
-  reported_silently number layer = record { packets_stay = refl; waiting = refl; named = refl; tells = lows_held layer.notices (held_stream_numbered layer number) }
-
-  event_moves : (low : ℕ) (event : Event (List ℕ)) (old new : ChannelsView) → HandlesEvent event old new → Wait all low old.layer.waiting old.layer.named
-      → Moves keep side packets all [] low [] old [] new
-  event_moves low connected old new made wait = then_begins low connection_made old new (connected_silently old.layer) made wait
-  event_moves low closed old new is wait = subst (λ (v : ChannelsView). Moves keep side packets all [] low [] old [] v) (sym is) (ended_moves low old wait)
-  event_moves low (aborted kind text) old new is wait = subst (λ (v : ChannelsView). Moves keep side packets all [] low [] old [] v) (sym is) (ended_moves low old wait)
-  event_moves low connection_restarted old new made wait =
-      let first = ended_moves low old wait in
-      moves_then keep side packets all [] low old (on_layer channels_ended old) [] new first
-      (only_moves first.steps.high _ (on_layer channels_ended old) new made (close_moves keep side packets all first.steps.high (on_layer channels_ended old) made.below made.makes first.waits))
-  event_moves low (incoming_stream_reset numbers) old new made wait =
-      then_begins low (streams_reset numbers) old new (rows_silently (reset_numbers numbers old.layer) peer_resets old.layer refl) made wait
-  event_moves low (streams_reset_performed numbers) old new made wait = then_begins low (rows_taken numbers was_performed) old new (rows_silently numbers was_performed old.layer refl) made wait
-  event_moves low (streams_reset_failed numbers) old new is wait = becomes_moves low (rows_taken numbers was_refused) old new (rows_silently numbers was_refused old.layer refl) is wait
-  event_moves low (buffered_amount_low number) old new is wait = becomes_moves low (amount_reported number) old new (reported_silently number old.layer) is wait
-  event_moves low (sent packet) old new is wait = stays keep side packets all low old new is wait
-  event_moves low (error kind text) old new is wait = stays keep side packets all low old new is wait
-  event_moves low total_buffered_amount_low old new is wait = stays keep side packets all low old new is wait
-  event_moves low (lifecycle_message_fully_sent id) old new is wait = stays keep side packets all low old new is wait
-  event_moves low (lifecycle_message_maybe_expired id) old new is wait = stays keep side packets all low old new is wait
-  event_moves low (lifecycle_message_expired id) old new is wait = stays keep side packets all low old new is wait
-  event_moves low (lifecycle_message_delivered id) old new is wait = stays keep side packets all low old new is wait
-  event_moves low (lifecycle_end id) old new is wait = stays keep side packets all low old new is wait
-
-  pub events_move : (low : ℕ) (over : Bool) (event : Event (List ℕ)) (old new : ChannelsView) → HandlesEventUnlessEnded over event old new → Wait all low old.layer.waiting old.layer.named
-      → Moves keep side packets all [] low [] old [] new
-  events_move low true event old new is wait = stays keep side packets all low old new is wait
-  events_move low false event old new made wait = event_moves low event old new made wait

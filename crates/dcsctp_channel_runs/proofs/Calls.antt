@@ -1,14 +1,9 @@
 -- The calls of an end's user, each as a move.
-use Rattle.std.proofs.Common.{◌≡◌, ◌==◌, ◌<◌, ◌≤◌, ◌^◌, ◌/◌, ℕ, zero, suc, ◌+◌, ◌||◌, Bool, true, false, nat_lt, Option, Some, None, Result, Ok, Err, List, [], ◌∷◌, ◌++◌, length, refl, sym, ap, subst, ◌∙◌, inl, inr, arith}
+use Rattle.std.proofs.Common.{◌≡◌, ◌==◌, ℕ, suc, ◌+◌, Bool, true, false, Option, Some, None, Result, Ok, Err, List, [], ◌∷◌, length, refl, sym, ap, subst, ◌∙◌, inl, inr, arith}
 use Rattle.std.specs.Prelude.{slice_get, if◌then◌else◌}
-use Rattle.std.specs.Int.{byte_at}
-use Rattle.std.proofs.Math.Nat.{mod-lt}
-use Rattle.std.proofs.lemmas.Bool.{ltb-false}
-use Rattle.std.proofs.lemmas.List.{length-append}
 use Rattle.dcsctp_spec_runs.specs.Laws.{SocketsKeepOptions}
 use Rattle.dcsctp_spec_runs.specs.Sockets.{DeliveryTurns, PerformedAct}
 use Rattle.dcsctp_delivery_directions.specs.sending.Places.{HasEntry}
-use Rattle.dcsctp_delivery_sockets.specs.sockets.Delivery.{FitsMessage}
 use Rattle.dcsctp_channel_calls.specs.api.Calls.{UserView, HandlesInput}
 use Rattle.dcsctp_channel_calls.specs.api.Messages.{SendsMessage}
 use Rattle.dcsctp_channel_calls.specs.api.declared.errors.SendError.{SendError}
@@ -18,136 +13,32 @@ use Rattle.dcsctp_channel_calls.specs.api.types.Setting.{stream_low_threshold}
 use Rattle.dcsctp_channel_calls.specs.api.types.queues.Messages.{MessageContent}
 use Rattle.dcsctp_channel_calls.specs.api.spec.endpoint.CallTurns.{Transition}
 use Rattle.dcsctp_channel_calls.specs.messages.channel_spec.declared.types.ChannelEnd.TheVariants.{Closed}
-use Rattle.dcsctp_channel_calls.specs.messages.channel_spec.Contents.{ChannelContent, ppid_for, content_ppid, payload_for, payload_of}
+use Rattle.dcsctp_channel_calls.specs.messages.channel_spec.Contents.{ChannelContent, content_ppid, payload_of}
 use Rattle.dcsctp_channel_calls.specs.messages.channel_spec.Slots.{Opening, ended, is_closed}
-use Rattle.dcsctp_channel_calls.specs.messages.Format.{channel_type, reliability_parameter, open_bytes}
-use Rattle.dcsctp_channel_calls.specs.messages.channel_spec.declared.types.Reliability.{Reliability}
-use Rattle.dcsctp_channel_calls.specs.messages.channel_spec.declared.types.Reliability.TheVariants.{Reliable, Retransmissions, Lifetime}
+use Rattle.dcsctp_channel_calls.specs.messages.Format.{open_bytes}
 use Rattle.dcsctp_channel_calls.specs.declared.channel.ChannelError.{ChannelError}
 use Rattle.dcsctp_channel_calls.specs.declared.channel.ChannelId.{ChannelId}
 use Rattle.dcsctp_channel_calls.specs.declared.channel.HeldStream.{HeldStream}
 use Rattle.dcsctp_channel_calls.specs.Calls.{OnlySocket, on_layer, clock_set}
-use Rattle.dcsctp_channel_calls.specs.Opening.{most_text, is_too_long, is_in_use, open_refusal, named_next, OpensOrRefuses}
+use Rattle.dcsctp_channel_calls.specs.Opening.{open_refusal, named_next, OpensOrRefuses}
 use Rattle.dcsctp_channel_calls.specs.Sending.{stream_of_name, open_stream, refusal_as, view_after_send, SendsOn, SendsIfOpen, without_waiting, ends_waiting, layer_after_close, SetsThresholdIfOpen}
 use Rattle.dcsctp_channel_calls.specs.View.{WaitingChannel, of_channel, LayerView, ChannelsView, held_stream_numbered}
 use Rattle.dcsctp_channel_laws.specs.Names.{ChannelsCall, sets_role, connects, handles_input, advances, aborts, shuts_down, opens_channel, sends_content, closes_channel, sets_threshold, IsCallMade}
-use Rattle.dcsctp_channel_runs.specs.Acts.{EndAct, calls, polls, AreByteValues, IsInMemory, FitsChannelContent, FitsEndCall, FitsEndAct, OpenedChannel, packets_given, channels_reported, contents_reported, channels_of_act, contents_of_act, notices_of_act}
+use Rattle.dcsctp_channel_runs.specs.Acts.{EndAct, calls, polls, IsInMemory, FitsChannelContent, FitsEndCall, FitsEndAct, OpenedChannel, SaidContent, packets_given, channels_reported, messages_reported, channels_of_act, said_contents, notices_of_act}
 use Rattle.dcsctp_channel_runs.specs.Runs.{HandsInOne, MakesAct}
-use Rattle.dcsctp_channel_runs.proofs.Begins.{only_moves, held_silently, waiting_moves, then_begins}
-use Rattle.dcsctp_channel_runs.proofs.Moves.{tells_nothing, Moves, moves_then, socket_moves, Silently, silently_same, layer_moves, silent_moves, stays}
+use Rattle.dcsctp_channel_laws.proofs.CallsTell.{open_is}
+use Rattle.dcsctp_channel_runs.proofs.Streams.{same_keeps, note_before}
+use Rattle.dcsctp_channel_runs.proofs.Naming.{named_keeping, closes_keeping, counted_keeping, open_has_stream}
+use Rattle.dcsctp_channel_runs.proofs.Begins.{only_moves, held_silently, waiting_moves}
+use Rattle.dcsctp_channel_runs.proofs.Events.{then_begins}
+use Rattle.dcsctp_channel_runs.proofs.Moves.{Moves, moves_then, socket_moves, Silently, silently_same, layer_moves, silent_moves, stays}
+use Rattle.dcsctp_channel_runs.proofs.Notices.{tells_nothing}
 use Rattle.dcsctp_channel_runs.proofs.Polls.{polls_move}
 use Rattle.dcsctp_channel_runs.proofs.QuietTurns.{input_quiet}
 use Rattle.dcsctp_channel_runs.proofs.Rows.{tells_more}
 use Rattle.dcsctp_channel_runs.proofs.Said.{Sent, none_sent, a_content, IsGood, WaitsFor, Wait, same_le, wait_from, wait_more}
 use Rattle.dcsctp_channel_runs.proofs.Sockets.{connect_moves, close_moves, shutdown_moves, advance_moves, set_moves, send_moves}
-
--- ---- bytes
-
-all-append : (xs ys : List ℕ) → AreByteValues xs → AreByteValues ys → AreByteValues (xs ++ ys)
-all-append [] ys first second = second
-all-append (x ∷ xs) ys (byte, first) second = (byte, all-append xs ys first second)
-
-byte_fits : (k n : ℕ) → byte_at k n < 2 ^ 8
-byte_fits zero n = mod-lt n (omega arith)
-byte_fits (suc k) n = mod-lt (n / 256 ^ suc k) (omega arith)
-
-type_fits : (ordered : Bool) (reliability : Reliability) → channel_type ordered reliability < 2 ^ 8
-type_fits true Reliable = omega arith
-type_fits true (Retransmissions limit) = omega arith
-type_fits true (Lifetime limit) = omega arith
-type_fits false Reliable = omega arith
-type_fits false (Retransmissions limit) = omega arith
-type_fits false (Lifetime limit) = omega arith
-
-open_are_bytes : (opening : Opening) → IsInMemory opening → AreByteValues (open_bytes opening)
-unfolding open_bytes
-open_are_bytes opening fits = (
-  omega arith,
-  (
-    type_fits opening.delivery.ordered opening.delivery.reliability,
-    (
-      byte_fits 1 opening.delivery.priority,
-      (
-        byte_fits 0 opening.delivery.priority,
-        (
-          byte_fits 3 (reliability_parameter opening.delivery.reliability),
-          (
-            byte_fits 2 (reliability_parameter opening.delivery.reliability),
-            (
-              byte_fits 1 (reliability_parameter opening.delivery.reliability),
-              (
-                byte_fits 0 (reliability_parameter opening.delivery.reliability),
-                (
-                  byte_fits 1 (length opening.label),
-                  (
-                    byte_fits 0 (length opening.label),
-                    (
-                      byte_fits 1 (length opening.protocol),
-                      (
-                        byte_fits 0 (length opening.protocol),
-                        all-append opening.label opening.protocol fits.label fits.protocol,
-                      ),
-                    ),
-                  ),
-                ),
-              ),
-            ),
-          ),
-        ),
-      ),
-    ),
-  ),
-)
-
-twelve_more : (n : ℕ) → suc (suc (suc (suc (suc (suc (suc (suc (suc (suc (suc (suc n))))))))))) ≡ 12 + n
-twelve_more n = omega arith
-
-open_length : (opening : Opening) → length (open_bytes opening) ≡ 12 + length (opening.label ++ opening.protocol)
-unfolding open_bytes
-open_length opening = twelve_more (length (opening.label ++ opening.protocol))
-
-either_false : (a b c : Bool) → (a || b || c) ≡ false → (a ≡ false) × (b ≡ false)
-either_false false false c is = (refl, refl)
-either_false true b c is = absurd cc
-either_false false true c is = absurd cc
-
--- the texts of an OPEN that isn't refused are short
-not_refused : (over long in_use : Bool) (a b c : ChannelError) → (if over then Some a else (if long then Some b else (if in_use then Some c else None))) ≡ None → long ≡ false
-not_refused true long in_use a b c is = absurd cc
-not_refused false true in_use a b c is = absurd cc
-not_refused false false in_use a b c is = refl
-
-texts_short : (opening : Opening) (negotiated : Option ℕ) (view : ChannelsView) → open_refusal opening negotiated view ≡ None → (length opening.label ≤ most_text) × (length opening.protocol ≤ most_text)
-texts_short opening negotiated view is =
-    let long : is_too_long view.below opening ≡ false = not_refused view.layer.over (is_too_long view.below opening) (is_in_use negotiated view.layer) _ _ _ is in
-    let short = either_false (nat_lt most_text (length opening.label)) (nat_lt most_text (length opening.protocol)) _ long in
-    (ltb-false most_text (length opening.label) short.0, ltb-false most_text (length opening.protocol) short.1)
-
-opening_good : (opening : Opening) → IsInMemory opening → length opening.label ≤ most_text → length opening.protocol ≤ most_text → IsGood opening
-opening_good opening fits label protocol =
-    let whole : length (open_bytes opening) ≡ 12 + length (opening.label ++ opening.protocol) = open_length opening in
-    let both : length (opening.label ++ opening.protocol) ≡ length opening.label + length opening.protocol = length-append opening.label opening.protocol in
-    record {
-      fits = record { label = omega arith; protocol = omega arith; priority = fits.priority; parameter = fits.parameter };
-      bytes = open_are_bytes opening fits;
-      size = omega arith;
-    }
-
-ppid_fits : (is_text : Bool) (bytes : List ℕ) → ppid_for is_text bytes < 2 ^ 32
-ppid_fits true [] = omega arith
-ppid_fits false [] = omega arith
-ppid_fits true (byte ∷ bytes) = omega arith
-ppid_fits false (byte ∷ bytes) = omega arith
-
-payload_fits : (bytes : List ℕ) → AreByteValues bytes → length bytes < 2 ^ 63 → AreByteValues (payload_for bytes) × (length (payload_for bytes) < 2 ^ 63)
-payload_fits [] are size = ((omega arith, tt), omega arith)
-payload_fits (byte ∷ bytes) are size = (are, size)
-
-content_message_fits : (number : ℕ) (content : ChannelContent) → number < 2 ^ 16 → FitsChannelContent content
-    → FitsMessage (record { stream = number; ppid = content_ppid content; payload = payload_of content })
-content_message_fits number content stream fits =
-    let payload = payload_fits content.bytes fits.bytes fits.size in
-    record { stream = stream; ppid = ppid_fits content.is_text content.bytes; payload = payload.0; size = payload.1 }
+use Rattle.dcsctp_channel_runs.proofs.Bytes.{texts_short, opening_good, content_message_fits}
 
 -- ---- packets
 
@@ -158,12 +49,12 @@ place_of entry (x ∷ xs) (inr has) = let later = place_of entry xs has in (suc 
 
 -- ---- a close of a channel that waits
 
-closed_tells : (name : ℕ) (waiting : List WaitingChannel) → (channels_reported (ends_waiting name waiting) ≡ []) × (contents_reported (ends_waiting name waiting) ≡ []) × (packets_given (ends_waiting name waiting) ≡ [])
+closed_tells : (name : ℕ) (waiting : List WaitingChannel) → (channels_reported (ends_waiting name waiting) ≡ []) × (messages_reported (ends_waiting name waiting) ≡ []) × (packets_given (ends_waiting name waiting) ≡ [])
 closed_tells name [] = (refl, refl, refl)
 closed_tells name (waits ∷ rest) = at_first (waits.name == name) (closed_tells name rest)
   where
-    at_first : (b : Bool) → (channels_reported (ends_waiting name rest) ≡ []) × (contents_reported (ends_waiting name rest) ≡ []) × (packets_given (ends_waiting name rest) ≡ [])
-        → (channels_reported (if b then of_channel (ended name Closed) ∷ [] else ends_waiting name rest) ≡ []) × (contents_reported (if b then of_channel (ended name Closed) ∷ [] else ends_waiting name rest) ≡ [])
+    at_first : (b : Bool) → (channels_reported (ends_waiting name rest) ≡ []) × (messages_reported (ends_waiting name rest) ≡ []) × (packets_given (ends_waiting name rest) ≡ [])
+        → (channels_reported (if b then of_channel (ended name Closed) ∷ [] else ends_waiting name rest) ≡ []) × (messages_reported (if b then of_channel (ended name Closed) ∷ [] else ends_waiting name rest) ≡ [])
         × (packets_given (if b then of_channel (ended name Closed) ∷ [] else ends_waiting name rest) ≡ [])
     at_first true others = (refl, refl, refl)
     at_first false others = others
@@ -190,7 +81,7 @@ module _ (keep : SocketsKeepOptions) (side : Side) (packets : List (List ℕ)) (
   input_moves low packet old below has made wait =
       let place = place_of packet packets has in
       let quiet = input_quiet old.below.endpoint packet made.turns made.are in
-      socket_moves keep side packets all low low (delivered (suc place.0) made.turns) [] [] old (record old { below = below })
+      socket_moves keep side packets all low low (delivered (suc place.0) made.turns) [] [] [] old (record old { below = below })
       (record {
         step = record {
           step = delivery_step side (suc place.0);
@@ -201,7 +92,7 @@ module _ (keep : SocketsKeepOptions) (side : Side) (packets : List (List ℕ)) (
         };
         endpoint = made.follows.endpoint;
         events = made.follows.events;
-      }) refl (subst (λ (l : List MessageContent). Sent l [] []) (sym quiet.sent) none_sent) (same_le low) quiet.read wait (tells_nothing old.layer.notices)
+      }) (same_keeps old.layer old.layer refl refl refl refl) refl (subst (λ (l : List MessageContent). Sent [] l [] []) (sym quiet.sent) none_sent) (same_le low) quiet.read wait (tells_nothing old.layer.notices)
 
   -- this of the layer, and then a call of the socket
   layer_then_only : (low : ℕ) (becomes : LayerView → LayerView) (Makes : UserView → Type 0) (old new : ChannelsView) → Silently keep side packets all old.layer (becomes old.layer)
@@ -231,7 +122,7 @@ module _ (keep : SocketsKeepOptions) (side : Side) (packets : List (List ℕ)) (
       let short = texts_short opening negotiated old not in
       let waits = wait_more all low old.layer.waiting (record { name = old.layer.named; payload = open_bytes opening; delivery = opening.delivery; negotiated = negotiated }) old.layer.named refl
       (waits_for opening negotiated id old.layer.named made.0 (opening_good opening fits short.0 short.1) entries) wait in
-      let first = layer_moves keep side packets all low old named refl refl (tells_nothing old.layer.notices) waits in
+      let first = layer_moves keep side packets all low old named (named_keeping opening negotiated old.layer) refl refl (tells_nothing old.layer.notices) waits in
       moves_then keep side packets all [] low old named [] new first (waiting_moves keep side packets all first.steps.high named new first.waits made.1)
   opens_move low opening negotiated None (Err error) old new not made fits entries wait = absurd made
   opens_move low opening negotiated (Some refusal) (Ok id) old new not made fits entries wait = absurd made
@@ -240,37 +131,42 @@ module _ (keep : SocketsKeepOptions) (side : Side) (packets : List (List ℕ)) (
   -- ---- a message is sent
 
   sent_on_moves : (low number : ℕ) (name : ℕ) (held : HeldStream) (content : ChannelContent) (answer : Result (Unit {0}) ChannelError) (taken : Result (Unit {0}) SendError) (old new : ChannelsView)
-      → (made : SendsOn number held content answer old new) → made.taken ≡ taken → FitsChannelContent content → Wait all low old.layer.waiting old.layer.named
-      → Moves keep side packets all [] low (contents_of_act (calls (sends_content name content answer))) old [] new
-  sent_on_moves low number name held content answer (Ok done) old new made is fits wait =
+      → (made : SendsOn number held content answer old new) → made.taken ≡ taken → open_stream old.layer name ≡ Some (number, held) → FitsChannelContent content → Wait all low old.layer.waiting old.layer.named
+      → Moves keep side packets all [] low (said_contents (calls (sends_content name content answer)) new.layer) old [] new
+  sent_on_moves low number name held content answer (Ok done) old new made is found fits wait =
       let message : MessageContent = record { stream = number; ppid = content_ppid content; payload = payload_of content } in
+      let after : ChannelsView = view_after_send (Ok done) number (length content.bytes) held made.below old.layer in
+      let said : SaidContent = record { message = record { name = name; content = content }; after = after.layer } in
+      let on = open_has_stream old.layer name (number, held) found in
       let answered : answer ≡ Ok done = made.answer_is ∙ ap refusal_as is in
       let new_is : new ≡ view_after_send (Ok done) number (length content.bytes) held made.below old.layer =
       made.is ∙ ap (λ (t : Result (Unit {0}) SendError). view_after_send t number (length content.bytes) held made.below old.layer) is in
-      subst (λ (a : Result (Unit {0}) ChannelError). Moves keep side packets all [] low (contents_of_act (calls (sends_content name content a))) old [] new) (sym answered)
-      (subst (λ (v : ChannelsView). Moves keep side packets all [] low (content ∷ []) old [] v) (sym new_is)
-      (send_moves keep side packets all low low message made.how [] (content ∷ []) old (view_after_send (Ok done) number (length content.bytes) held made.below old.layer) (Ok done)
+      subst (λ (a : Result (Unit {0}) ChannelError). Moves keep side packets all [] low (said_contents (calls (sends_content name content a)) new.layer) old [] new) (sym answered)
+      (subst (λ (v : ChannelsView). Moves keep side packets all [] low (said_contents (calls (sends_content name content (Ok done))) v.layer) old [] v) (sym new_is)
+      (send_moves keep side packets all low low message made.how [] (said ∷ []) ((name, number) ∷ []) old after (Ok done)
       (content_message_fits number content made.fits fits)
+      (note_before name number old.layer after.layer (λ a. on)
+      (counted_keeping number (length content.bytes) held old.layer (open_is old.layer (number, held) name found)))
       (subst (λ (t : Result (Unit {0}) SendError). SendsMessage message made.how old.below (Ok t) made.below) is made.sends)
-      (a_content message content [] [] [] (record { ppid = refl; payload = refl }) none_sent) (same_le low) refl wait (tells_nothing old.layer.notices)))
-  sent_on_moves low number name held content answer (Err refusal) old new made is fits wait =
+      (a_content message said [] [] [] (record { ppid = refl; payload = refl }) (inl refl) on none_sent) (same_le low) refl wait (tells_nothing old.layer.notices)))
+  sent_on_moves low number name held content answer (Err refusal) old new made is found fits wait =
       let message : MessageContent = record { stream = number; ppid = content_ppid content; payload = payload_of content } in
       let answered : answer ≡ refusal_as (Err refusal) = made.answer_is ∙ ap refusal_as is in
       let new_is : new ≡ view_after_send (Err refusal) number (length content.bytes) held made.below old.layer =
       made.is ∙ ap (λ (t : Result (Unit {0}) SendError). view_after_send t number (length content.bytes) held made.below old.layer) is in
-      subst (λ (a : Result (Unit {0}) ChannelError). Moves keep side packets all [] low (contents_of_act (calls (sends_content name content a))) old [] new) (sym answered)
+      subst (λ (a : Result (Unit {0}) ChannelError). Moves keep side packets all [] low (said_contents (calls (sends_content name content a)) new.layer) old [] new) (sym answered)
       (subst (λ (v : ChannelsView). Moves keep side packets all [] low [] old [] v) (sym new_is)
-      (send_moves keep side packets all low low message made.how [] [] old (view_after_send (Err refusal) number (length content.bytes) held made.below old.layer) (Err refusal)
-      (content_message_fits number content made.fits fits)
+      (send_moves keep side packets all low low message made.how [] [] [] old (view_after_send (Err refusal) number (length content.bytes) held made.below old.layer) (Err refusal)
+      (content_message_fits number content made.fits fits) (same_keeps old.layer old.layer refl refl refl refl)
       (subst (λ (t : Result (Unit {0}) SendError). SendsMessage message made.how old.below (Ok t) made.below) is made.sends)
       none_sent (same_le low) refl wait (tells_nothing old.layer.notices)))
 
   sends_move : (low : ℕ) (found : Option (ℕ × HeldStream)) (name : ℕ) (content : ChannelContent) (answer : Result (Unit {0}) ChannelError) (old new : ChannelsView)
-      → SendsIfOpen found content answer old new → FitsChannelContent content → Wait all low old.layer.waiting old.layer.named
-      → Moves keep side packets all [] low (contents_of_act (calls (sends_content name content answer))) old [] new
-  sends_move low None name content answer old new made fits wait =
-      subst (λ (a : Result (Unit {0}) ChannelError). Moves keep side packets all [] low (contents_of_act (calls (sends_content name content a))) old [] new) (sym made.0) (stays keep side packets all low old new made.1 wait)
-  sends_move low (Some found) name content answer old new made fits wait = sent_on_moves low found.0 name found.1 content answer made.taken old new made refl fits wait
+      → open_stream old.layer name ≡ found → SendsIfOpen found content answer old new → FitsChannelContent content → Wait all low old.layer.waiting old.layer.named
+      → Moves keep side packets all [] low (said_contents (calls (sends_content name content answer)) new.layer) old [] new
+  sends_move low None name content answer old new is made fits wait =
+      subst (λ (a : Result (Unit {0}) ChannelError). Moves keep side packets all [] low (said_contents (calls (sends_content name content a)) new.layer) old [] new) (sym made.0) (stays keep side packets all low old new made.1 wait)
+  sends_move low (Some found) name content answer old new is made fits wait = sent_on_moves low found.0 name found.1 content answer made.taken old new made refl is fits wait
 
   -- ---- close, and the threshold
 
@@ -279,11 +175,11 @@ module _ (keep : SocketsKeepOptions) (side : Side) (packets : List (List ℕ)) (
   closes_move low (Some number) name old new is wait =
       subst (λ (v : ChannelsView). Moves keep side packets all [] low [] old [] v) (sym is)
       (silent_moves keep side packets all low old (on_layer (layer_after_close (Some number) name) old) refl
-      (held_silently keep side packets all (held_stream_numbered old.layer number) number is_closed old.layer refl) wait)
+      (held_silently keep side packets all (held_stream_numbered old.layer number) number is_closed old.layer refl refl) wait)
   closes_move low None name old new is wait =
       let silent = closed_tells name old.layer.waiting in
       subst (λ (v : ChannelsView). Moves keep side packets all [] low [] old [] v) (sym is)
-      (layer_moves keep side packets all low old (on_layer (layer_after_close None name) old) refl refl
+      (layer_moves keep side packets all low old (on_layer (layer_after_close None name) old) (closes_keeping name old.layer) refl refl
       (tells_more old.layer.notices (ends_waiting name old.layer.waiting) [] [] silent.0 silent.1 silent.2)
       (wait_without all low name old.layer.waiting old.layer.named wait))
 
@@ -296,22 +192,22 @@ module _ (keep : SocketsKeepOptions) (side : Side) (packets : List (List ℕ)) (
 
   -- ---- any call
 
-  same_silently : (old new : LayerView) → new.packets ≡ old.packets → new.waiting ≡ old.waiting → new.named ≡ old.named → new.notices ≡ old.notices → Silently keep side packets all old new
-  same_silently old new left waiting named same = silently_same keep side packets all old new left waiting named same
+  same_silently : (old new : LayerView) → new.packets ≡ old.packets → new.streams ≡ old.streams → new.names ≡ old.names → new.waiting ≡ old.waiting → new.named ≡ old.named → new.notices ≡ old.notices → Silently keep side packets all old new
+  same_silently old new left streams names waiting named same = silently_same keep side packets all old new left streams names waiting named same
 
   call_moves : (low : ℕ) (given : List (List ℕ)) (call : ChannelsCall) (old new : ChannelsView) → ((packet : List ℕ) → HasEntry packet given → HasEntry packet packets) → FitsEndCall call
       → ((channel : OpenedChannel) → HasEntry channel (channels_of_act (calls call)) → HasEntry channel all) → HandsInOne given call → IsCallMade call old new
-      → Wait all low old.layer.waiting old.layer.named → Moves keep side packets all [] low (contents_of_act (calls call)) old [] new
+      → Wait all low old.layer.waiting old.layer.named → Moves keep side packets all [] low (said_contents (calls call) new.layer) old [] new
   call_moves low given (sets_role role) old new more fits entries hands made wait =
-      then_begins keep side packets all low (λ layer. record layer { role = Some role }) old new (same_silently old.layer (record old.layer { role = Some role }) refl refl refl refl) made wait
+      then_begins keep side packets all low (λ layer. record layer { role = Some role }) old new (same_silently old.layer (record old.layer { role = Some role }) refl refl refl refl refl refl) made wait
   call_moves low given connects old new more fits entries hands made wait =
       only_moves keep side packets all low _ old new made (connect_moves keep side packets all low old made.below made.makes wait)
   call_moves low given (handles_input packet) old new more fits entries hands made wait =
       let room : LayerView → LayerView = λ layer. record layer { has_room = true } in
-      layer_then_only low room _ old new (same_silently old.layer (room old.layer) refl refl refl refl) made wait
+      layer_then_only low room _ old new (same_silently old.layer (room old.layer) refl refl refl refl refl refl) made wait
       (λ from waits. input_moves from packet (on_layer room old) made.below (more packet hands) made.makes waits)
   call_moves low given (advances moment) old new more fits entries hands made wait =
-      layer_then_only low (clock_set moment) _ old new (same_silently old.layer (clock_set moment old.layer) refl refl refl refl) made wait
+      layer_then_only low (clock_set moment) _ old new (same_silently old.layer (clock_set moment old.layer) refl refl refl refl refl refl) made wait
       (λ from waits. advance_moves keep side packets all from moment (on_layer (clock_set moment) old) made.below made.makes waits)
   call_moves low given aborts old new more fits entries hands made wait =
       only_moves keep side packets all low _ old new made (close_moves keep side packets all low old made.below made.makes wait)
@@ -320,13 +216,13 @@ module _ (keep : SocketsKeepOptions) (side : Side) (packets : List (List ℕ)) (
   call_moves low given (opens_channel opening negotiated answer) old new more fits entries hands made wait =
       opens_move low opening negotiated (open_refusal opening negotiated old) answer old new refl made fits entries wait
   call_moves low given (sends_content name content answer) old new more fits entries hands made wait =
-      sends_move low (open_stream old.layer name) name content answer old new made fits wait
+      sends_move low (open_stream old.layer name) name content answer old new refl made fits wait
   call_moves low given (closes_channel name) old new more fits entries hands made wait = closes_move low (stream_of_name old.layer name) name old new made wait
   call_moves low given (sets_threshold name bytes answer) old new more fits entries hands made wait = threshold_moves low (stream_of_name old.layer name) bytes answer old new made wait
 
   -- an act of an end is a move of it
   pub act_moves : (low : ℕ) (given : List (List ℕ)) (act : EndAct) (old new : ChannelsView) → ((packet : List ℕ) → HasEntry packet given → HasEntry packet packets) → FitsEndAct act
       → ((channel : OpenedChannel) → HasEntry channel (channels_of_act act) → HasEntry channel all) → MakesAct given act old new → packets_given old.layer.notices ≡ []
-      → Wait all low old.layer.waiting old.layer.named → Moves keep side packets all [] low (contents_of_act act) old (notices_of_act act) new
+      → Wait all low old.layer.waiting old.layer.named → Moves keep side packets all [] low (said_contents act new.layer) old (notices_of_act act) new
   act_moves low given (calls call) old new more fits entries made plain wait = call_moves low given call old new more fits entries made.0 made.1 wait
   act_moves low given (polls notice) old new more fits entries made plain wait = polls_move keep side packets all notice new low old plain wait made

@@ -1,7 +1,5 @@
 -- Messages of the peer, what was put off, and polls.
-use Rattle.std.proofs.Common.{◌≡◌, ◌==◌, ◌<◌, ◌^◌, ℕ, ◌+◌, Bool, true, false, nat_lt, Option, Some, None, Result, Ok, Err, List, [], ◌∷◌, ◌++◌, length, map, refl, sym, ap, subst, ◌∙◌, inl, inr, arith}
-use Rattle.std.specs.Prelude.{if◌then◌else◌}
-use Rattle.std.proofs.lemmas.Bool.{eqb-true}
+use Rattle.std.proofs.Common.{◌≡◌, ◌<◌, ◌^◌, ℕ, ◌+◌, Bool, true, false, Option, Some, None, Result, Ok, Err, List, [], ◌∷◌, ◌++◌, map, refl, sym, ap, subst, ◌∙◌, inl, inr, arith}
 use Rattle.std.proofs.lemmas.List.{append-nil}
 use Rattle.dcsctp_spec_runs.specs.Laws.{SocketsKeepOptions}
 use Rattle.dcsctp_delivery_sockets.specs.sockets.Delivery.{FitsMessage}
@@ -12,74 +10,31 @@ use Rattle.dcsctp_channel_calls.specs.api.declared.errors.ResetStreamsError.{Res
 use Rattle.dcsctp_channel_calls.specs.api.types.declared.schedule.Side.{Side}
 use Rattle.dcsctp_channel_calls.specs.api.types.queues.Messages.{MessageContent, message_content}
 use Rattle.dcsctp_channel_calls.specs.api.spec.endpoint.Event.{packets_of_events}
-use Rattle.dcsctp_channel_calls.specs.messages.channel_spec.Contents.{ChannelContent, control_ppid, content_from}
-use Rattle.dcsctp_channel_calls.specs.messages.channel_spec.Slots.{Opening, Report, SlotInput, opens, agrees, hears_open, hears_ack, hears_message, hears_bad_message, may_acknowledge, is_closed, all_is_sent, cannot_reset, was_performed, was_refused, peer_resets, association_ends}
+use Rattle.dcsctp_channel_calls.specs.messages.channel_spec.Contents.{ChannelContent}
+use Rattle.dcsctp_channel_calls.specs.messages.channel_spec.Slots.{Opening, name_of_slot, Report, SlotInput, hears_open, hears_message, may_acknowledge}
 use Rattle.dcsctp_channel_calls.specs.messages.channel_spec.Table.{outcome_of}
-use Rattle.dcsctp_channel_calls.specs.messages.declared.control.ControlError.{ControlError}
-use Rattle.dcsctp_channel_calls.specs.messages.Format.{Control, open_message, acknowledgement, control_of_bytes, ack_bytes}
+use Rattle.dcsctp_channel_calls.specs.messages.Format.{ack_bytes}
 use Rattle.dcsctp_channel_calls.specs.declared.channel.HeldStream.{HeldStream}
-use Rattle.dcsctp_channel_calls.specs.Arrivals.{accepts_open, input_of_control, input_of_content, input_of, AcceptsOpen, message_taken, TakesRow, ack_is_due, view_after_ack, SendsAck, AcksIfDue, AcksHeld, is_handled, HandlesOrDropsMessage}
+use Rattle.dcsctp_channel_calls.specs.Arrivals.{input_of, AcceptsOpen, plain_delivery, delivery_of_input, message_taken, TakesRow, ack_is_due, view_after_ack, SendsAck, AcksIfDue, AcksHeld, is_handled, HandlesOrDropsMessage}
 use Rattle.dcsctp_channel_calls.specs.Calls.{on_layer}
 use Rattle.dcsctp_channel_calls.specs.Late.{reset_input, ResetsStream, DoesLate, a_reset, an_ack, waiting_begin}
 use Rattle.dcsctp_channel_calls.specs.Polls.{one_more_taken, HandlesNext, an_event, a_message, put_off, TakesNextNotice, PollsInTurn, takes, goes_on, idle}
 use Rattle.dcsctp_channel_calls.specs.Sending.{plainly, control_message}
 use Rattle.dcsctp_channel_calls.specs.View.{ChannelNotice, packet_out, association_made, of_channel, amount_low, association_over, LayerView, ChannelsView, held_stream_numbered, slot_numbered, row_taken, view_with_events}
-use Rattle.dcsctp_channel_runs.specs.Acts.{OpenedChannel, packets_given, channels_reported, contents_reported, notices_of_act, polls}
+use Rattle.dcsctp_channel_runs.specs.Acts.{OpenedChannel, NamedContent, packets_given, channels_reported, messages_reported, notices_of_act, polls}
 use Rattle.dcsctp_channel_runs.proofs.Said.{none_sent, an_ack as sent_ack, none_heard, a_dropped, a_channel, a_message as heard_message, SaysOpen, SaysContent, Heard, Wait, same_le, wait_named}
-use Rattle.dcsctp_channel_runs.proofs.Moves.{Tells, tells_nothing, Moves, moves_then, unmoved, silently_same, silent_moves, stays}
-use Rattle.dcsctp_channel_runs.proofs.Rows.{brings_nothing, BringsChannel, BringsContent, row_brings_channel, row_brings_content, row_silent, no_packets, tells_more}
+use Rattle.dcsctp_channel_runs.proofs.Moves.{Moves, moves_then, unmoved, silently_same, silent_moves, stays}
+use Rattle.dcsctp_channel_runs.proofs.Coming.{AreToCome}
+use Rattle.dcsctp_channel_runs.proofs.Notices.{Tells, tells_nothing}
+use Rattle.dcsctp_channel_runs.proofs.StreamRows.{next_to_come}
+use Rattle.dcsctp_channel_runs.proofs.Streams.{Keeping, same_keeps, note_before}
+use Rattle.dcsctp_channel_runs.proofs.Naming.{row_keeping, accepted_keeping, accepted_noted}
+use Rattle.dcsctp_channel_runs.proofs.SlotNames.{names_none}
+use Rattle.dcsctp_channel_runs.proofs.Rows.{brings_nothing, BringsChannel, BringsContent, brings_none, brings_one, row_brings_channel, row_brings_content, row_silent, no_packets, tells_more}
 use Rattle.dcsctp_channel_runs.proofs.Sockets.{readies_moves, reset_moves, send_moves, takes_then}
-use Rattle.dcsctp_channel_runs.proofs.Begins.{gather_moves, row_silently, waiting_moves, events_move}
-
--- ---- what a message is to its stream
-
--- It brings nothing of the peer's user; or it is an OPEN that is accepted; or it is a message of the user.
-pub data Brings (layer : LayerView) (m : MessageContent) : SlotInput → Type 0 where
-  nothing_new : (input : SlotInput) → brings_nothing input ≡ true → Brings layer m input
-  a_new_channel : (opening : Opening) → SaysOpen m (record { name = layer.named; opening = opening }) → Brings layer m (hears_open true layer.named opening)
-  a_new_message : (content : ChannelContent) → SaysContent m content → Brings layer m (hears_message content)
-
-open_brings : (layer : LayerView) (m : MessageContent) (opening : Opening) (accepted : Bool) → m.ppid ≡ control_ppid → control_of_bytes m.payload ≡ Ok (open_message opening)
-    → Brings layer m (hears_open accepted layer.named opening)
-open_brings layer m opening true ppid read = a_new_channel opening (record { ppid = ppid; payload = read })
-open_brings layer m opening false ppid read = nothing_new (hears_open false layer.named opening) refl
-
-control_brings : (layer : LayerView) (m : MessageContent) (read : Result Control ControlError) → m.ppid ≡ control_ppid → control_of_bytes m.payload ≡ read
-    → Brings layer m (input_of_control layer m.stream read)
-control_brings layer m (Ok acknowledgement) ppid is = nothing_new hears_ack refl
-control_brings layer m (Ok (open_message opening)) ppid is = open_brings layer m opening (accepts_open layer m.stream opening) ppid is
-control_brings layer m (Err error) ppid is = nothing_new hears_bad_message refl
-
-content_brings : (layer : LayerView) (m : MessageContent) (is_long : Bool) (content : Option ChannelContent) → content_from m.ppid m.payload ≡ content → Brings layer m (input_of_content is_long content)
-content_brings layer m true content is = nothing_new hears_bad_message refl
-content_brings layer m false None is = nothing_new hears_bad_message refl
-content_brings layer m false (Some content) is = a_new_message content is
-
-either_brings : (layer : LayerView) (m : MessageContent) (is_control : Bool) → (m.ppid == control_ppid) ≡ is_control
-    → Brings layer m (if is_control then input_of_control layer m.stream (control_of_bytes m.payload) else input_of_content (nat_lt layer.limits.message (length m.payload)) (content_from m.ppid m.payload))
-either_brings layer m true is = control_brings layer m (control_of_bytes m.payload) (eqb-true m.ppid control_ppid is) refl
-either_brings layer m false is = content_brings layer m (nat_lt layer.limits.message (length m.payload)) (content_from m.ppid m.payload) refl
-
-input_brings : (layer : LayerView) (m : MessageContent) → Brings layer m (input_of layer m)
-input_brings layer m = either_brings layer m (m.ppid == control_ppid) refl
-
--- all rows but that of an OPEN that is accepted change the layer alone
-plain_row : (number : ℕ) (input : SlotInput) (old new : ChannelsView) → brings_nothing input ≡ true → TakesRow number input old new → new ≡ on_layer (message_taken number input) old
-plain_row number (hears_open true name opening) old new none is = absurd cc
-plain_row number (hears_open false name opening) old new none is = is
-plain_row number (opens name opening) old new none is = is
-plain_row number (agrees name) old new none is = is
-plain_row number hears_ack old new none is = is
-plain_row number (hears_message content) old new none is = is
-plain_row number hears_bad_message old new none is = is
-plain_row number may_acknowledge old new none is = is
-plain_row number is_closed old new none is = is
-plain_row number all_is_sent old new none is = is
-plain_row number cannot_reset old new none is = is
-plain_row number was_performed old new none is = is
-plain_row number was_refused old new none is = is
-plain_row number peer_resets old new none is = is
-plain_row number association_ends old new none is = is
+use Rattle.dcsctp_channel_runs.proofs.Begins.{gather_moves, row_silently, waiting_moves}
+use Rattle.dcsctp_channel_runs.proofs.Events.{events_move}
+use Rattle.dcsctp_channel_runs.proofs.Brings.{Brings, input_brings, plain_row, nothing_new, a_new_channel, a_new_message}
 
 -- ---- notices without a packet
 
@@ -97,12 +52,12 @@ module _ (keep : SocketsKeepOptions) (side : Side) (packets : List (List ℕ)) (
   -- ---- a message takes its row
 
   -- the layer after a row, with what it reports
-  reports_move : (low : ℕ) (m : MessageContent) (old new : ChannelsView) (reports : List Report) (channels : List OpenedChannel) (contents : List ChannelContent)
-      → new.below ≡ old.below → new.layer.packets ≡ old.layer.packets → new.layer.notices ≡ old.layer.notices ++ map of_channel reports
-      → channels_reported (map of_channel reports) ≡ channels → contents_reported (map of_channel reports) ≡ contents → Heard (m ∷ []) channels contents
+  reports_move : (low : ℕ) (m : MessageContent) (old new : ChannelsView) (reports : List Report) (channels : List OpenedChannel) (contents : List NamedContent)
+      (pairs : List (ℕ × ℕ)) → Keeping pairs old.layer new.layer → AreToCome old.layer channels → new.below ≡ old.below → new.layer.packets ≡ old.layer.packets → new.layer.notices ≡ old.layer.notices ++ map of_channel reports
+      → channels_reported (map of_channel reports) ≡ channels → messages_reported (map of_channel reports) ≡ contents → Heard pairs (m ∷ []) channels contents
       → Wait all low new.layer.waiting new.layer.named → Moves keep side packets all (m ∷ []) low [] old [] new
-  reports_move low m old new reports channels contents below left behind some others heard wait =
-      unmoved keep side packets all (m ∷ []) low old [] new channels contents (ap (λ (u : UserView). u.endpoint) below)
+  reports_move low m old new reports channels contents pairs keeping come below left behind some others heard wait =
+      unmoved keep side packets all (m ∷ []) low old [] new channels contents pairs keeping come (ap (λ (u : UserView). u.endpoint) below)
       (ap (λ (u : UserView). new.layer.packets ++ packets_of_events u.events) below ∙ ap (λ (l : List (List ℕ)). l ++ packets_of_events old.below.events) left)
       wait heard
       (subst (λ (l : List ChannelNotice). Tells [] channels contents old.layer.notices l) (sym behind)
@@ -111,59 +66,64 @@ module _ (keep : SocketsKeepOptions) (side : Side) (packets : List (List ℕ)) (
   dropped_moves : (low : ℕ) (m : MessageContent) (old new : ChannelsView) → new ≡ old → Wait all low old.layer.waiting old.layer.named → Moves keep side packets all (m ∷ []) low [] old [] new
   dropped_moves low m old new is wait =
       subst (λ (v : ChannelsView). Moves keep side packets all (m ∷ []) low [] old [] v) (sym is)
-      (unmoved keep side packets all (m ∷ []) low old [] old [] [] refl refl wait (a_dropped m [] [] [] none_heard) (tells_nothing old.layer.notices))
+      (unmoved keep side packets all (m ∷ []) low old [] old [] [] [] (same_keeps old.layer old.layer refl refl refl refl) (λ orderly. tt) refl refl wait (a_dropped m [] [] [] none_heard) (tells_nothing old.layer.notices))
 
-  silent_row_moves : (low number : ℕ) (m : MessageContent) (input : SlotInput) (old new : ChannelsView) → brings_nothing input ≡ true → new ≡ on_layer (message_taken number input) old
+  silent_row_moves : (low number : ℕ) (m : MessageContent) (input : SlotInput) (old new : ChannelsView) → brings_nothing input ≡ true → names_none input ≡ true → new ≡ on_layer (message_taken number input) old
       → Wait all low old.layer.waiting old.layer.named → Moves keep side packets all (m ∷ []) low [] old [] new
-  silent_row_moves low number m input old new none is wait =
+  silent_row_moves low number m input old new none names is wait =
       let taken : ChannelsView = on_layer (message_taken number input) old in
       let silent = row_silent input (slot_numbered old.layer number) none in
       subst (λ (v : ChannelsView). Moves keep side packets all (m ∷ []) low [] old [] v) (sym is)
-      (reports_move low m old taken (outcome_of input (slot_numbered old.layer number)).reports [] [] refl refl refl silent.0 silent.1 (a_dropped m [] [] [] none_heard) wait)
+      (reports_move low m old taken (outcome_of input (slot_numbered old.layer number)).reports [] [] [] (row_keeping number (delivery_of_input input) input old.layer names) (λ orderly. tt) refl refl refl silent.0 silent.1
+      (a_dropped m [] [] [] none_heard) wait)
 
-  content_moves : (low number : ℕ) (m : MessageContent) (content : ChannelContent) (old : ChannelsView) → SaysContent m content
-      → BringsContent content (outcome_of (hears_message content) (slot_numbered old.layer number)).reports → Wait all low old.layer.waiting old.layer.named
-      → Moves keep side packets all (m ∷ []) low [] old [] (on_layer (message_taken number (hears_message content)) old)
-  content_moves low number m content old says (inl silent) wait =
-      reports_move low m old (on_layer (message_taken number (hears_message content)) old) (outcome_of (hears_message content) (slot_numbered old.layer number)).reports [] [] refl refl refl silent.0 silent.1
-      (a_dropped m [] [] [] none_heard) wait
-  content_moves low number m content old says (inr brings) wait =
-      reports_move low m old (on_layer (message_taken number (hears_message content)) old) (outcome_of (hears_message content) (slot_numbered old.layer number)).reports [] (content ∷ []) refl refl refl
-      brings.0 brings.1 (heard_message m content [] [] [] says none_heard) wait
+  content_moves : (low : ℕ) (m : MessageContent) (content : ChannelContent) (old : ChannelsView) → SaysContent m content
+      → BringsContent content (name_of_slot (slot_numbered old.layer m.stream)) (outcome_of (hears_message content) (slot_numbered old.layer m.stream)).reports → Wait all low old.layer.waiting old.layer.named
+      → Moves keep side packets all (m ∷ []) low [] old [] (on_layer (message_taken m.stream (hears_message content)) old)
+  content_moves low m content old says (brings_none silent) wait =
+      reports_move low m old (on_layer (message_taken m.stream (hears_message content)) old) (outcome_of (hears_message content) (slot_numbered old.layer m.stream)).reports [] [] []
+      (row_keeping m.stream plain_delivery (hears_message content) old.layer refl) (λ orderly. tt) refl refl refl silent.0 silent.1 (a_dropped m [] [] [] none_heard) wait
+  content_moves low m content old says (brings_one name on none one) wait =
+      let after : ChannelsView = on_layer (message_taken m.stream (hears_message content)) old in
+      reports_move low m old after (outcome_of (hears_message content) (slot_numbered old.layer m.stream)).reports [] (record { name = name; content = content } ∷ []) ((name, m.stream) ∷ [])
+      (note_before name m.stream old.layer after.layer (λ a. a.leads m.stream name on) (row_keeping m.stream plain_delivery (hears_message content) old.layer refl)) (λ orderly. tt) refl refl refl none one
+      (heard_message m (record { name = name; content = content }) [] [] [] says (inl refl) tt none_heard) wait
 
   -- the layer after an OPEN that is accepted
   accepted_layer : ℕ → Opening → LayerView → LayerView
   accepted_layer number opening layer = record (row_taken number opening.delivery (hears_open true layer.named opening) layer) { named = layer.named + 1 }
 
-  channel_moves : (low number : ℕ) (m : MessageContent) (opening : Opening) (old : ChannelsView) → SaysOpen m (record { name = old.layer.named; opening = opening })
-      → BringsChannel old.layer.named opening (outcome_of (hears_open true old.layer.named opening) (slot_numbered old.layer number)).reports → Wait all low old.layer.waiting old.layer.named
-      → Moves keep side packets all (m ∷ []) low [] old [] (record old { layer = accepted_layer number opening old.layer })
+  channel_moves : (low : ℕ) (m : MessageContent) (opening : Opening) (old : ChannelsView) → SaysOpen m (record { name = old.layer.named; opening = opening })
+      → BringsChannel old.layer.named opening (outcome_of (hears_open true old.layer.named opening) (slot_numbered old.layer m.stream)) → Wait all low old.layer.waiting old.layer.named
+      → Moves keep side packets all (m ∷ []) low [] old [] (record old { layer = accepted_layer m.stream opening old.layer })
   unfolding accepted_layer
-  channel_moves low number m opening old says (inl silent) wait =
-      reports_move low m old (record old { layer = accepted_layer number opening old.layer }) (outcome_of (hears_open true old.layer.named opening) (slot_numbered old.layer number)).reports [] []
+  channel_moves low m opening old says (inl silent) wait =
+      reports_move low m old (record old { layer = accepted_layer m.stream opening old.layer }) (outcome_of (hears_open true old.layer.named opening) (slot_numbered old.layer m.stream)).reports [] [] []
+      (accepted_keeping m.stream opening old.layer) (λ orderly. tt)
       refl refl refl silent.0 silent.1 (a_dropped m [] [] [] none_heard) (wait_named all low old.layer.waiting old.layer.named (old.layer.named + 1) (omega arith) wait)
-  channel_moves low number m opening old says (inr brings) wait =
+  channel_moves low m opening old says (inr brings) wait =
       let channel : OpenedChannel = record { name = old.layer.named; opening = opening } in
-      reports_move low m old (record old { layer = accepted_layer number opening old.layer }) (outcome_of (hears_open true old.layer.named opening) (slot_numbered old.layer number)).reports (channel ∷ []) []
-      refl refl refl brings.0 brings.1 (a_channel m channel [] [] [] says none_heard) (wait_named all low old.layer.waiting old.layer.named (old.layer.named + 1) (omega arith) wait)
+      reports_move low m old (record old { layer = accepted_layer m.stream opening old.layer }) (outcome_of (hears_open true old.layer.named opening) (slot_numbered old.layer m.stream)).reports (channel ∷ []) []
+      ((old.layer.named, m.stream) ∷ []) (accepted_noted m.stream opening old.layer brings.0) (λ orderly. (next_to_come old.layer orderly, tt))
+      refl refl refl brings.1 brings.2 (a_channel m channel [] [] [] says (inl refl) none_heard) (wait_named all low old.layer.waiting old.layer.named (old.layer.named + 1) (omega arith) wait)
 
-  accepted_moves : (low number : ℕ) (m : MessageContent) (opening : Opening) (old new : ChannelsView) → SaysOpen m (record { name = old.layer.named; opening = opening }) → AcceptsOpen number opening old new
+  accepted_moves : (low : ℕ) (m : MessageContent) (opening : Opening) (old new : ChannelsView) → SaysOpen m (record { name = old.layer.named; opening = opening }) → AcceptsOpen m.stream opening old new
       → Wait all low old.layer.waiting old.layer.named → Moves keep side packets all (m ∷ []) low [] old [] new
   unfolding accepted_layer
-  accepted_moves low number m opening old new says accepts wait =
-      let noted : ChannelsView = record old { layer = accepted_layer number opening old.layer } in
-      let first = channel_moves low number m opening old says (row_brings_channel old.layer.named opening (slot_numbered old.layer number)) wait in
+  accepted_moves low m opening old new says accepts wait =
+      let noted : ChannelsView = record old { layer = accepted_layer m.stream opening old.layer } in
+      let first = channel_moves low m opening old says (row_brings_channel old.layer.named opening (slot_numbered old.layer m.stream)) wait in
       subst (λ (v : ChannelsView). Moves keep side packets all (m ∷ []) low [] old [] v) (sym accepts.is)
-      (moves_then keep side packets all (m ∷ []) low old noted [] (record { below = accepts.prepared; layer = accepted_layer number opening old.layer }) first
-      (readies_moves keep side packets all first.steps.high number opening.delivery.priority noted accepts.prepared accepts.prepares first.waits))
+      (moves_then keep side packets all (m ∷ []) low old noted [] (record { below = accepts.prepared; layer = accepted_layer m.stream opening old.layer }) first
+      (readies_moves keep side packets all first.steps.high m.stream opening.delivery.priority noted accepts.prepared accepts.prepares first.waits))
 
-  row_moves : (low number : ℕ) (m : MessageContent) (input : SlotInput) (old new : ChannelsView) → Brings old.layer m input → TakesRow number input old new → Wait all low old.layer.waiting old.layer.named
+  row_moves : (low : ℕ) (m : MessageContent) (input : SlotInput) (old new : ChannelsView) → Brings old.layer m input → TakesRow m.stream input old new → Wait all low old.layer.waiting old.layer.named
       → Moves keep side packets all (m ∷ []) low [] old [] new
-  row_moves low number m _ old new (nothing_new input none) made wait = silent_row_moves low number m input old new none (plain_row number input old new none made) wait
-  row_moves low number m _ old new (a_new_channel opening says) made wait = accepted_moves low number m opening old new says made wait
-  row_moves low number m _ old new (a_new_message content says) is wait =
+  row_moves low m _ old new (nothing_new input none names) made wait = silent_row_moves low m.stream m input old new none names (plain_row m.stream input old new none made) wait
+  row_moves low m _ old new (a_new_channel opening says) made wait = accepted_moves low m opening old new says made wait
+  row_moves low m _ old new (a_new_message content says) is wait =
       subst (λ (v : ChannelsView). Moves keep side packets all (m ∷ []) low [] old [] v) (sym is)
-      (content_moves low number m content old says (row_brings_content content (slot_numbered old.layer number)) wait)
+      (content_moves low m content old says (row_brings_content content (slot_numbered old.layer m.stream)) wait)
 
   -- ---- ACKs
 
@@ -172,14 +132,15 @@ module _ (keep : SocketsKeepOptions) (side : Side) (packets : List (List ℕ)) (
       → Wait all low old.layer.waiting old.layer.named → Moves keep side packets all [] low [] old [] new
   ack_moves low number held old new (Ok done) below fits sends is wait =
       let acked : ChannelsView = view_after_ack (Ok done) number held below old.layer in
-      let silently = row_silently keep side packets all number held.delivery may_acknowledge old.layer refl in
+      let silently = row_silently keep side packets all number held.delivery may_acknowledge old.layer refl refl in
       subst (λ (v : ChannelsView). Moves keep side packets all [] low [] old [] v) (sym is)
-      (send_moves keep side packets all low low (control_message number ack_bytes) plainly [] [] old acked (Ok done) (ack_message_fits number fits) sends
+      (send_moves keep side packets all low low (control_message number ack_bytes) plainly [] [] [] old acked (Ok done) (ack_message_fits number fits) silently.keeping sends
       (sent_ack (control_message number ack_bytes) [] [] [] (record { ppid = refl; payload = refl }) none_sent) (same_le low) refl wait silently.tells)
   ack_moves low number held old new (Err refusal) below fits sends is wait =
       let acked : ChannelsView = view_after_ack (Err refusal) number held below old.layer in
       subst (λ (v : ChannelsView). Moves keep side packets all [] low [] old [] v) (sym is)
-      (send_moves keep side packets all low low (control_message number ack_bytes) plainly [] [] old acked (Err refusal) (ack_message_fits number fits) sends
+      (send_moves keep side packets all low low (control_message number ack_bytes) plainly [] [] [] old acked (Err refusal) (ack_message_fits number fits)
+      (same_keeps old.layer acked.layer refl refl refl refl) sends
       none_sent (same_le low) refl wait (tells_nothing old.layer.notices))
 
   pub acks_move : (low number : ℕ) (held : HeldStream) (old new : ChannelsView) → SendsAck number held old new → Wait all low old.layer.waiting old.layer.named → Moves keep side packets all [] low [] old [] new
@@ -199,7 +160,7 @@ module _ (keep : SocketsKeepOptions) (side : Side) (packets : List (List ℕ)) (
       → Moves keep side packets all (m ∷ []) low [] old [] new
   message_moves low false m old new is wait = dropped_moves low m old new is wait
   message_moves low true m old new made wait =
-      let first = row_moves low m.stream m (input_of old.layer m) old made.0 (input_brings old.layer m) made.1 wait in
+      let first = row_moves low m (input_of old.layer m) old made.0 (input_brings old.layer m) made.1 wait in
       moves_then keep side packets all (m ∷ []) low old made.0 [] new first
       (held_moves first.steps.high (held_stream_numbered made.0.layer m.stream) m.stream made.0 new made.2 first.waits)
 
@@ -208,6 +169,10 @@ module _ (keep : SocketsKeepOptions) (side : Side) (packets : List (List ℕ)) (
   reset_row : (answer : Result (Unit {0}) ResetStreamsError) → brings_nothing (reset_input answer) ≡ true
   reset_row (Ok done) = refl
   reset_row (Err error) = refl
+
+  reset_names : (answer : Result (Unit {0}) ResetStreamsError) → names_none (reset_input answer) ≡ true
+  reset_names (Ok done) = refl
+  reset_names (Err error) = refl
 
   resets_move : (low number : ℕ) (held : HeldStream) (old new : ChannelsView) → ResetsStream number held old new → Wait all low old.layer.waiting old.layer.named
       → Moves keep side packets all [] low [] old [] new
@@ -218,7 +183,7 @@ module _ (keep : SocketsKeepOptions) (side : Side) (packets : List (List ℕ)) (
       subst (λ (v : ChannelsView). Moves keep side packets all [] low [] old [] v) (sym resets.is)
       (moves_then keep side packets all [] low old asked [] after first
       (silent_moves keep side packets all first.steps.high asked after refl
-      (row_silently keep side packets all number held.delivery (reset_input resets.answer) old.layer (reset_row resets.answer)) first.waits))
+      (row_silently keep side packets all number held.delivery (reset_input resets.answer) old.layer (reset_row resets.answer) (reset_names resets.answer)) first.waits))
 
   late_moves : (low : ℕ) (old new : ChannelsView) → DoesLate old new → Wait all low old.layer.waiting old.layer.named → Moves keep side packets all [] low [] old [] new
   late_moves low old new (a_reset number held at due resets) wait = resets_move low number held old new resets wait
@@ -228,13 +193,13 @@ module _ (keep : SocketsKeepOptions) (side : Side) (packets : List (List ℕ)) (
   next_moves : (low : ℕ) (old new : ChannelsView) → HandlesNext old new → Wait all low old.layer.waiting old.layer.named → Moves keep side packets all [] low [] old [] new
   next_moves low old new (an_event first rest due told made) wait =
       let without : ChannelsView = on_layer (λ layer. record layer { told = rest }) old in
-      let out = silent_moves keep side packets all low old without refl (silently_same keep side packets all old.layer without.layer refl refl refl refl) wait in
+      let out = silent_moves keep side packets all low old without refl (silently_same keep side packets all old.layer without.layer refl refl refl refl refl refl) wait in
       moves_then keep side packets all [] low old without [] new out
       (events_move keep side packets all out.steps.high old.layer.over first.event without new made out.waits)
   next_moves low old new (a_message due ready) wait =
       let now : ChannelsView = one_more_taken ready.below old.layer in
       let m : MessageContent = message_content ready.taken in
-      takes_then keep side packets all low old now ready.taken new ready.takes refl refl (message_moves low (is_handled now m.stream) m now new ready.handles wait)
+      takes_then keep side packets all low old now ready.taken new ready.takes (same_keeps old.layer now.layer refl refl refl refl) refl refl (message_moves low (is_handled now m.stream) m now new ready.handles wait)
   next_moves low old new (put_off quiet lasts late) wait = late_moves low old new late wait
 
   -- ---- a poll
@@ -245,17 +210,17 @@ module _ (keep : SocketsKeepOptions) (side : Side) (packets : List (List ℕ)) (
       let taken : ChannelsView = record old { layer = record old.layer { packets = rest } } in
       subst (λ (v : ChannelsView). Moves keep side packets all [] low [] old (notice ∷ []) v) (sym (ap (λ (u : UserView). record { below = u; layer = new.layer }) below ∙ ap (λ (l : LayerView). record { below = old.below; layer = l }) layer))
       (subst (λ (n : ChannelNotice). Moves keep side packets all [] low [] old (n ∷ []) taken) (sym out)
-      (unmoved keep side packets all [] low old (packet_out packet ∷ []) taken [] [] refl (ap (λ (l : List (List ℕ)). l ++ packets_of_events old.below.events) is) wait none_heard
-      (record { incoming = sym (append-nil (channels_reported old.layer.notices)); messages = sym (append-nil (contents_reported old.layer.notices)); plain = λ none. none })))
+      (unmoved keep side packets all [] low old (packet_out packet ∷ []) taken [] [] [] (same_keeps old.layer taken.layer refl refl refl refl) (λ orderly. tt) refl (ap (λ (l : List (List ℕ)). l ++ packets_of_events old.below.events) is) wait none_heard
+      (record { incoming = sym (append-nil (channels_reported old.layer.notices)); messages = sym (append-nil (messages_reported old.layer.notices)); plain = λ none. none })))
   takes_moves low [] old new notice is (rest, found, layer) below plain wait =
       let taken : ChannelsView = record old { layer = record old.layer { notices = rest } } in
       let none = first_plain notice rest (ap packets_given (sym found) ∙ plain) in
       subst (λ (v : ChannelsView). Moves keep side packets all [] low [] old (notice ∷ []) v) (sym (ap (λ (u : UserView). record { below = u; layer = new.layer }) below ∙ ap (λ (l : LayerView). record { below = old.below; layer = l }) layer))
-      (unmoved keep side packets all [] low old (notice ∷ []) taken [] [] refl
+      (unmoved keep side packets all [] low old (notice ∷ []) taken [] [] [] (same_keeps old.layer taken.layer refl refl refl refl) (λ orderly. tt) refl
       (ap (λ (l : List (List ℕ)). l ++ (old.layer.packets ++ packets_of_events old.below.events)) none.0) wait none_heard
       (record {
         incoming = ap channels_reported (sym found) ∙ sym (append-nil (channels_reported old.layer.notices));
-        messages = ap contents_reported (sym found) ∙ sym (append-nil (contents_reported old.layer.notices));
+        messages = ap messages_reported (sym found) ∙ sym (append-nil (messages_reported old.layer.notices));
         plain = λ before. none.1;
       }))
 

@@ -7,15 +7,15 @@ use Rattle.dcsctp_channel_calls.specs.messages.channel_spec.declared.types.OwnRe
 use Rattle.dcsctp_channel_calls.specs.messages.channel_spec.declared.types.OwnReset.TheVariants.{NotAsked, Asked, Performed, GivenUp}
 use Rattle.dcsctp_channel_calls.specs.messages.channel_spec.declared.types.StreamUse.{StreamUse}
 use Rattle.dcsctp_channel_calls.specs.messages.channel_spec.Contents.{ChannelContent}
-use Rattle.dcsctp_channel_calls.specs.messages.channel_spec.Slots.{Opening, StreamSlot, free, used, Report, opened, incoming, message, ended, SlotInput, opens, agrees, hears_open, hears_ack, hears_message, hears_bad_message, may_acknowledge, is_closed, all_is_sent, cannot_reset, was_performed, was_refused, peer_resets, association_ends}
+use Rattle.dcsctp_channel_calls.specs.messages.channel_spec.Slots.{Opening, StreamSlot, free, used, name_of_slot, SlotOutcome, Report, opened, incoming, message, ended, SlotInput, opens, agrees, hears_open, hears_ack, hears_message, hears_bad_message, may_acknowledge, is_closed, all_is_sent, cannot_reset, was_performed, was_refused, peer_resets, association_ends}
 use Rattle.dcsctp_channel_calls.specs.messages.channel_spec.Table.{outcome_of, reports_of, end_if_heard, settled_if_reset, reopens_if_reset, heard_reports, message_reports, acknowledges_if_owed, resets_if_closing, gives_up_if_closing, after_performed, asks_again_or_gives_up, after_refused, most_refusals}
 use Rattle.dcsctp_channel_calls.specs.View.{ChannelNotice, packet_out, association_made, of_channel, amount_low, association_over, LayerView, slot_numbered, row_taken}
-use Rattle.dcsctp_channel_runs.specs.Acts.{OpenedChannel, packets_given, channels_reported, contents_reported}
-use Rattle.dcsctp_channel_runs.proofs.Moves.{Tells}
+use Rattle.dcsctp_channel_runs.specs.Acts.{OpenedChannel, NamedContent, packets_given, channels_reported, messages_reported}
+use Rattle.dcsctp_channel_runs.proofs.Notices.{Tells}
 
 -- They tell nothing of the peer.
 abbrev pub IsSilent : List Report → Type 0
-IsSilent reports = (channels_reported (map of_channel reports) ≡ []) × (contents_reported (map of_channel reports) ≡ [])
+IsSilent reports = (channels_reported (map of_channel reports) ≡ []) × (messages_reported (map of_channel reports) ≡ [])
 
 ends_silently : (name : Option ℕ) (e : ChannelEnd) → IsSilent (reports_of name (λ n. ended n e))
 ends_silently None e = (refl, refl)
@@ -131,48 +131,53 @@ row_silent input (used stream) none = used_silent input stream none
 
 -- ---- an OPEN that is accepted, and a message of the user
 
--- a channel, or none
-abbrev pub BringsChannel : ℕ → Opening → List Report → Type 0
-BringsChannel name opening reports =
-    IsSilent reports ⊎ ((channels_reported (map of_channel reports) ≡ record { name = name; opening = opening } ∷ []) × (contents_reported (map of_channel reports) ≡ []))
+-- the channel of the stream, or none
+abbrev pub BringsChannel : ℕ → Opening → SlotOutcome → Type 0
+BringsChannel name opening outcome =
+    IsSilent outcome.reports
+    ⊎ ((name_of_slot outcome.after ≡ Some name) × (channels_reported (map of_channel outcome.reports) ≡ record { name = name; opening = opening } ∷ []) × (messages_reported (map of_channel outcome.reports) ≡ []))
 
-after_end : (ended_name : Option ℕ) (e : ChannelEnd) (name : ℕ) (opening : Opening) → BringsChannel name opening (reports_of ended_name (λ n. ended n e) ++ incoming name opening ∷ [])
-after_end None e name opening = inr (refl, refl)
-after_end (Some n) e name opening = inr (refl, refl)
+after_end : (ended_name : Option ℕ) (e : ChannelEnd) (name : ℕ) (opening : Opening)
+    → (channels_reported (map of_channel (reports_of ended_name (λ n. ended n e) ++ incoming name opening ∷ [])) ≡ record { name = name; opening = opening } ∷ [])
+    × (messages_reported (map of_channel (reports_of ended_name (λ n. ended n e) ++ incoming name opening ∷ [])) ≡ [])
+after_end None e name opening = (refl, refl)
+after_end (Some n) e name opening = (refl, refl)
 
-reopened : (peer_reset : Bool) (own : OwnReset) (name : ℕ) (opening : Opening) (stream : StreamUse) → BringsChannel name opening (reopens_if_reset peer_reset own true name opening stream).reports
-reopened true Asked name opening stream = after_end stream.name (end_if_heard stream.heard) name opening
+reopened : (peer_reset : Bool) (own : OwnReset) (name : ℕ) (opening : Opening) (stream : StreamUse) → BringsChannel name opening (reopens_if_reset peer_reset own true name opening stream)
+reopened true Asked name opening stream = let told = after_end stream.name (end_if_heard stream.heard) name opening in inr (refl, told.0, told.1)
 reopened true NotAsked name opening stream = inl (refl, refl)
 reopened true Performed name opening stream = inl (refl, refl)
 reopened true GivenUp name opening stream = inl (refl, refl)
 reopened false own name opening stream = inl (refl, refl)
 
-pub row_brings_channel : (name : ℕ) (opening : Opening) (slot : StreamSlot) → BringsChannel name opening (outcome_of (hears_open true name opening) slot).reports
-row_brings_channel name opening free = inr (refl, refl)
+pub row_brings_channel : (name : ℕ) (opening : Opening) (slot : StreamSlot) → BringsChannel name opening (outcome_of (hears_open true name opening) slot)
+row_brings_channel name opening free = inr (refl, refl, refl)
 row_brings_channel name opening (used stream) = reopened stream.peer_reset stream.own name opening stream
 
--- a message, or none
-abbrev pub BringsContent : ChannelContent → List Report → Type 0
-BringsContent content reports = IsSilent reports ⊎ ((channels_reported (map of_channel reports) ≡ []) × (contents_reported (map of_channel reports) ≡ content ∷ []))
+-- a message on the channel of the stream, or none
+pub data BringsContent (content : ChannelContent) (name : Option ℕ) (reports : List Report) : Type 0 where
+  brings_none : IsSilent reports → BringsContent content name reports
+  brings_one : (on : ℕ) → name ≡ Some on → channels_reported (map of_channel reports) ≡ [] → messages_reported (map of_channel reports) ≡ record { name = on; content = content } ∷ [] → BringsContent content name reports
 
-content_there : (closing : Bool) (name : Option ℕ) (content : ChannelContent) → BringsContent content (message_reports closing name content)
-content_there true name content = inl (refl, refl)
-content_there false None content = inl (refl, refl)
-content_there false (Some n) content = inr (refl, refl)
+content_there : (closing : Bool) (name : Option ℕ) (content : ChannelContent) → BringsContent content name (message_reports closing name content)
+content_there true name content = brings_none (refl, refl)
+content_there false None content = brings_none (refl, refl)
+content_there false (Some n) content = brings_one n refl refl refl
 
-opened_before : (name : Option ℕ) (content : ChannelContent) (more : List Report) → BringsContent content more → BringsContent content (reports_of name opened ++ more)
-opened_before None content more brings = brings
-opened_before (Some n) content more brings = brings
+opened_before : (opened_name name : Option ℕ) (content : ChannelContent) (more : List Report) → BringsContent content name more → BringsContent content name (reports_of opened_name opened ++ more)
+opened_before None name content more brings = brings
+opened_before (Some n) name content more (brings_none silent) = brings_none silent
+opened_before (Some n) name content more (brings_one on is none one) = brings_one on is none one
 
-content_heard : (heard closing : Bool) (stream : StreamUse) (content : ChannelContent) (more : List Report) → BringsContent content more → BringsContent content (heard_reports heard closing stream ++ more)
-content_heard false false stream content more brings = opened_before stream.name content more brings
-content_heard false true stream content more brings = brings
-content_heard true closing stream content more brings = brings
+content_heard : (heard closing : Bool) (stream : StreamUse) (name : Option ℕ) (content : ChannelContent) (more : List Report) → BringsContent content name more → BringsContent content name (heard_reports heard closing stream ++ more)
+content_heard false false stream name content more brings = opened_before stream.name name content more brings
+content_heard false true stream name content more brings = brings
+content_heard true closing stream name content more brings = brings
 
-pub row_brings_content : (content : ChannelContent) (slot : StreamSlot) → BringsContent content (outcome_of (hears_message content) slot).reports
-row_brings_content content free = inl (refl, refl)
+pub row_brings_content : (content : ChannelContent) (slot : StreamSlot) → BringsContent content (name_of_slot slot) (outcome_of (hears_message content) slot).reports
+row_brings_content content free = brings_none (refl, refl)
 row_brings_content content (used stream) =
-    content_heard stream.heard stream.closing stream content (message_reports stream.closing stream.name content) (content_there stream.closing stream.name content)
+    content_heard stream.heard stream.closing stream stream.name content (message_reports stream.closing stream.name content) (content_there stream.closing stream.name content)
 
 -- ---- lists of notices
 
@@ -187,16 +192,16 @@ channels-append (of_channel (ended n e) ∷ xs) ys = channels-append xs ys
 channels-append (amount_low n ∷ xs) ys = channels-append xs ys
 channels-append (association_over ∷ xs) ys = channels-append xs ys
 
-pub contents-append : (xs ys : List ChannelNotice) → contents_reported (xs ++ ys) ≡ contents_reported xs ++ contents_reported ys
-contents-append [] ys = refl
-contents-append (packet_out p ∷ xs) ys = contents-append xs ys
-contents-append (association_made ∷ xs) ys = contents-append xs ys
-contents-append (of_channel (opened n) ∷ xs) ys = contents-append xs ys
-contents-append (of_channel (incoming n o) ∷ xs) ys = contents-append xs ys
-contents-append (of_channel (message n m) ∷ xs) ys = ap (λ (l : List ChannelContent). m ∷ l) (contents-append xs ys)
-contents-append (of_channel (ended n e) ∷ xs) ys = contents-append xs ys
-contents-append (amount_low n ∷ xs) ys = contents-append xs ys
-contents-append (association_over ∷ xs) ys = contents-append xs ys
+pub messages-append : (xs ys : List ChannelNotice) → messages_reported (xs ++ ys) ≡ messages_reported xs ++ messages_reported ys
+messages-append [] ys = refl
+messages-append (packet_out p ∷ xs) ys = messages-append xs ys
+messages-append (association_made ∷ xs) ys = messages-append xs ys
+messages-append (of_channel (opened n) ∷ xs) ys = messages-append xs ys
+messages-append (of_channel (incoming n o) ∷ xs) ys = messages-append xs ys
+messages-append (of_channel (message n m) ∷ xs) ys = ap (λ (l : List NamedContent). record { name = n; content = m } ∷ l) (messages-append xs ys)
+messages-append (of_channel (ended n e) ∷ xs) ys = messages-append xs ys
+messages-append (amount_low n ∷ xs) ys = messages-append xs ys
+messages-append (association_over ∷ xs) ys = messages-append xs ys
 
 pub packets-append : (xs ys : List ChannelNotice) → packets_given (xs ++ ys) ≡ packets_given xs ++ packets_given ys
 packets-append [] ys = refl
@@ -211,12 +216,12 @@ no_packets [] = refl
 no_packets (report ∷ reports) = no_packets reports
 
 -- More notices behind what there was tell what they say.
-pub tells_more : (before more : List ChannelNotice) (channels : List OpenedChannel) (contents : List ChannelContent)
-    → channels_reported more ≡ channels → contents_reported more ≡ contents → packets_given more ≡ [] → Tells [] channels contents before (before ++ more)
+pub tells_more : (before more : List ChannelNotice) (channels : List OpenedChannel) (contents : List NamedContent)
+    → channels_reported more ≡ channels → messages_reported more ≡ contents → packets_given more ≡ [] → Tells [] channels contents before (before ++ more)
 tells_more before more channels contents some others plain =
     record {
       incoming = channels-append before more ∙ ap (λ (l : List OpenedChannel). channels_reported before ++ l) some;
-      messages = contents-append before more ∙ ap (λ (l : List ChannelContent). contents_reported before ++ l) others;
+      messages = messages-append before more ∙ ap (λ (l : List NamedContent). messages_reported before ++ l) others;
       plain = λ none. packets-append before more ∙ ap (λ (l : List (List ℕ)). l ++ packets_given more) none ∙ plain;
     }
 

@@ -32,12 +32,13 @@ use Rattle.dcsctp_channel_calls.specs.api.spec.endpoint.SettingOutcomes.{setting
 use Rattle.dcsctp_channel_calls.specs.api.spec.endpoint.Turn.{Input, act_input, user_sets, user_sends, user_resets, user_takes}
 use Rattle.dcsctp_channel_calls.specs.api.spec.endpoint.UserTurns.{UserTurns}
 use Rattle.dcsctp_channel_calls.specs.api.spec.queues.Transfer.{Transfer}
-use Rattle.dcsctp_channel_calls.specs.messages.channel_spec.Contents.{ChannelContent}
 use Rattle.dcsctp_channel_calls.specs.Opening.{ReadiesStream, priority_of}
 use Rattle.dcsctp_channel_calls.specs.View.{ChannelsView}
-use Rattle.dcsctp_channel_runs.specs.Acts.{OpenedChannel}
-use Rattle.dcsctp_channel_runs.proofs.Moves.{Tells, tells_nothing, Moves, moves_then, reads_then, StepsSocket, socket_steps, socket_moves}
+use Rattle.dcsctp_channel_runs.specs.Acts.{OpenedChannel, SaidContent}
+use Rattle.dcsctp_channel_runs.proofs.Moves.{Moves, moves_then, reads_then, StepsSocket, socket_steps, socket_moves}
+use Rattle.dcsctp_channel_runs.proofs.Notices.{Tells, tells_nothing}
 use Rattle.dcsctp_channel_runs.proofs.QuietTurns.{AreQuiet, turns_quiet, advance_quiet}
+use Rattle.dcsctp_channel_runs.proofs.Streams.{Keeping, same_keeps}
 use Rattle.dcsctp_channel_runs.proofs.Said.{Sent, none_sent, Wait, Rise, same_le}
 
 -- ---- what turns send and read
@@ -108,8 +109,8 @@ module _ (keep : SocketsKeepOptions) (side : Side) (packets : List (List ℕ)) (
   quiet_moves : (low : ℕ) (worked : PerformedAct) (old : ChannelsView) (below : UserView) → StepsSocket keep side packets all worked old.below below
       → AreQuiet old.below.endpoint worked.turns → Wait all low old.layer.waiting old.layer.named → Moves keep side packets all [] low [] old [] (record old { below = below })
   quiet_moves low worked old below made quiet waits =
-      socket_moves keep side packets all low low worked [] [] old (record old { below = below }) made refl
-      (subst (λ (l : List MessageContent). Sent l [] []) (sym quiet.sent) none_sent) (same_le low) quiet.read waits (tells_nothing old.layer.notices)
+      socket_moves keep side packets all low low worked [] [] [] old (record old { below = below }) made (same_keeps old.layer old.layer refl refl refl refl) refl
+      (subst (λ (l : List MessageContent). Sent [] l [] []) (sym quiet.sent) none_sent) (same_le low) quiet.read waits (tells_nothing old.layer.notices)
 
   pub connect_moves : (low : ℕ) (old : ChannelsView) (below : UserView) → Connects old.below (Ok tt) below → Wait all low old.layer.waiting old.layer.named
       → Moves keep side packets all [] low [] old [] (record old { below = below })
@@ -174,18 +175,18 @@ module _ (keep : SocketsKeepOptions) (side : Side) (packets : List (List ℕ)) (
   -- ---- a message is sent, or refused
 
   -- the layer may change with it
-  pub send_moves : (low high : ℕ) (message : MessageContent) (how : SendOptions) (opens : List OpenedChannel) (says : List ChannelContent) (old new : ChannelsView)
-      (answer : Result (Unit {0}) SendError) → FitsMessage message → SendsMessage message how old.below (Ok answer) new.below
-      → Sent (accepted_if answer message) opens says → Rise all low opens high → new.layer.packets ≡ old.layer.packets → Wait all high new.layer.waiting new.layer.named
+  pub send_moves : (low high : ℕ) (message : MessageContent) (how : SendOptions) (opens : List OpenedChannel) (says : List SaidContent) (pairs : List (ℕ × ℕ)) (old new : ChannelsView)
+      (answer : Result (Unit {0}) SendError) → FitsMessage message → Keeping pairs old.layer new.layer → SendsMessage message how old.below (Ok answer) new.below
+      → Sent pairs (accepted_if answer message) opens says → Rise all low opens high → new.layer.packets ≡ old.layer.packets → Wait all high new.layer.waiting new.layer.named
       → Tells [] [] [] old.layer.notices new.layer.notices → Moves keep side packets all [] low says old [] new
-  send_moves low high message how opens says old new answer fits made sent rises left waits tells =
+  send_moves low high message how opens says pairs old new answer fits keeping made sent rises left waits tells =
       let e : Endpoint = old.below.endpoint in
       let alone = sent_alone e (sending_of how message ∷ []) made.turns made.are in
       let accepted : messages_of_turns e made.turns ≡ accepted_if answer message =
       alone.0 ∙ accepted_is answer (message_refusal e message.stream (length message.payload)) message made.answers in
-      socket_moves keep side packets all low high (called (send_call message how) made.turns) opens says old new
-      (made_by (IsSendAnswer e message) (send_call message how) old.below new.below answer fits made) left
-      (subst (λ (l : List MessageContent). Sent l opens says) (sym accepted) sent) rises alone.1 waits tells
+      socket_moves keep side packets all low high (called (send_call message how) made.turns) opens says pairs old new
+      (made_by (IsSendAnswer e message) (send_call message how) old.below new.below answer fits made) keeping left
+      (subst (λ (l : List MessageContent). Sent pairs l opens says) (sym accepted) sent) rises alone.1 waits tells
 
   -- ---- a message is taken
 
@@ -214,11 +215,11 @@ module _ (keep : SocketsKeepOptions) (side : Side) (packets : List (List ℕ)) (
   take_reads old taken below takes = append-nil (first_readable (ready_messages old.endpoint)) ∙ first_is (ready_messages old.endpoint) (Some taken) takes.first
 
   -- A message is taken, and then this is done with it.
-  pub takes_then : (low : ℕ) (a b : ChannelsView) (taken : Message) (c : ChannelsView) → TakesNextMessage a.below (Some taken) b.below → b.layer.packets ≡ a.layer.packets
+  pub takes_then : (low : ℕ) (a b : ChannelsView) (taken : Message) (c : ChannelsView) → TakesNextMessage a.below (Some taken) b.below → Keeping [] a.layer b.layer → b.layer.packets ≡ a.layer.packets
       → b.layer.notices ≡ a.layer.notices → Moves keep side packets all (message_content taken ∷ []) low [] b [] c → Moves keep side packets all [] low [] a [] c
-  takes_then low a b taken c takes left same rest =
+  takes_then low a b taken c takes keeping left same rest =
       let worked : PerformedAct = called take_call (take_turns takes.outcome) in
       reads_then keep side packets all low a b (message_content taken ∷ []) c
-      (socket_steps keep side packets all low low worked [] [] a b (take_called a.below taken b.below takes) left
-      (subst (λ (l : List MessageContent). Sent l [] []) (sym (take_sends a.below.endpoint takes.outcome)) none_sent) (same_le low))
+      (socket_steps keep side packets all low low worked [] [] [] a b (take_called a.below taken b.below takes) keeping left
+      (subst (λ (l : List MessageContent). Sent [] l [] []) (sym (take_sends a.below.endpoint takes.outcome)) none_sent) (same_le low))
       (take_reads a.below taken b.below takes) same rest

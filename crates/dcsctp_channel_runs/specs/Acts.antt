@@ -1,5 +1,5 @@
 -- What users of channels do at two ends, and what they see.
-use Rattle.std.specs.Prelude.{◌<◌, ◌^◌, ℕ, Option, Some, None, Ok, List, [], ◌∷◌, ◌++◌, length}
+use Rattle.std.specs.Prelude.{◌==◌, ◌<◌, ◌^◌, ℕ, Option, Some, None, Ok, List, [], ◌∷◌, ◌++◌, length, map, if◌then◌else◌}
 use Rattle.std.specs.List.{AllByRecursion}
 use Rattle.dcsctp_spec_runs.specs.Sockets.{Both}
 use Rattle.dcsctp_channel_calls.specs.api.types.declared.schedule.Side.{Side}
@@ -7,7 +7,7 @@ use Rattle.dcsctp_channel_calls.specs.api.types.declared.schedule.Side.TheVarian
 use Rattle.dcsctp_channel_calls.specs.messages.channel_spec.Contents.{ChannelContent}
 use Rattle.dcsctp_channel_calls.specs.messages.channel_spec.Slots.{Opening, incoming, message}
 use Rattle.dcsctp_channel_calls.specs.messages.Format.{reliability_parameter}
-use Rattle.dcsctp_channel_calls.specs.View.{ChannelNotice, packet_out, of_channel, ChannelsView}
+use Rattle.dcsctp_channel_calls.specs.View.{ChannelNotice, packet_out, of_channel, LayerView, ChannelsView}
 use Rattle.dcsctp_channel_laws.specs.Names.{ChannelsCall, opens_channel, sends_content}
 
 -- ---- acts
@@ -63,11 +63,24 @@ channels_reported [] = []
 channels_reported (of_channel (incoming name opening) ∷ notices) = record { name = name; opening = opening } ∷ channels_reported notices
 channels_reported (notice ∷ notices) = channels_reported notices
 
--- what was read, on whatever channel
-abbrev pub contents_reported : List ChannelNotice → List ChannelContent
-contents_reported [] = []
-contents_reported (of_channel (message name content) ∷ notices) = content ∷ contents_reported notices
-contents_reported (notice ∷ notices) = contents_reported notices
+-- a message of a user, with the name of its channel at this end
+pub record NamedContent : Type 0 where
+  pub name : ℕ
+  pub content : ChannelContent
+
+abbrev pub contents_named : List NamedContent → List ChannelContent
+contents_named messages = map (λ (named : NamedContent). named.content) messages
+
+-- those on this channel
+abbrev pub contents_on : ℕ → List NamedContent → List ChannelContent
+contents_on name [] = []
+contents_on name (first ∷ messages) = if first.name == name then first.content ∷ contents_on name messages else contents_on name messages
+
+-- what was read
+abbrev pub messages_reported : List ChannelNotice → List NamedContent
+messages_reported [] = []
+messages_reported (of_channel (message name content) ∷ notices) = record { name = name; content = content } ∷ messages_reported notices
+messages_reported (notice ∷ notices) = messages_reported notices
 
 -- ---- what a user did
 
@@ -80,14 +93,23 @@ abbrev pub channels_of : List EndAct → List OpenedChannel
 channels_of [] = []
 channels_of (act ∷ acts) = channels_of_act act ++ channels_of acts
 
--- what `send` accepted, on whatever channel
-abbrev pub contents_of_act : EndAct → List ChannelContent
-contents_of_act (calls (sends_content name content (Ok done))) = content ∷ []
-contents_of_act act = []
+-- a message that `send` accepted, and what the end was right after
+pub record SaidContent : Type 0 where
+  pub message : NamedContent
+  pub after : LayerView
 
-abbrev pub contents_of : List EndAct → List ChannelContent
-contents_of [] = []
-contents_of (act ∷ acts) = contents_of_act act ++ contents_of acts
+abbrev pub said_contents : EndAct → LayerView → List SaidContent
+said_contents (calls (sends_content name content (Ok done))) after = record { message = record { name = name; content = content }; after = after } ∷ []
+said_contents act after = []
+
+abbrev pub said_with : Side → List SaidContent → Both (List SaidContent) → Both (List SaidContent)
+said_with sides.A more said = record said { a = said.a ++ more }
+said_with sides.B more said = record said { b = said.b ++ more }
+
+-- what the users sent on channels, oldest first; the acts of a run come newest first
+abbrev pub said_at_ends : List MadeAct → Both (List SaidContent)
+said_at_ends [] = record { a = []; b = [] }
+said_at_ends (made ∷ earlier) = said_with made.side (said_contents made.act made.after.layer) (said_at_ends earlier)
 
 -- ---- what has its type
 

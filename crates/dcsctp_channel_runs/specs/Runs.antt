@@ -1,10 +1,13 @@
 -- A run of two ends with channels, and the run of two sockets that it is.
-use Rattle.std.specs.Prelude.{◌≡◌, ℕ, List, [], ◌∷◌, ◌++◌}
+use Rattle.std.specs.List.{AllByRecursion}
+use Rattle.std.specs.Prelude.{◌≡◌, ℕ, false, List, [], ◌∷◌, ◌++◌}
 use Rattle.dcsctp_delivery_directions.specs.sending.Places.{HasEntry}
 use Rattle.dcsctp_spec_runs.specs.Sockets.{PerformedAct, Both, of_side, of_other, SocketRun, turns_after, endpoint_after, packets_shown, acts_of}
 use Rattle.dcsctp_theorem_sockets.specs.Agreement.{AreUsable, AreFresh}
 use Rattle.dcsctp_delivery_sockets.specs.sockets.Delivery.{AreInMemory}
+use Rattle.dcsctp_delivery_sockets.specs.sockets.Ordered.{AllowsOrder, read_under}
 use Rattle.dcsctp_delivery_sockets.specs.sockets.ShownDelivery.{AllowsDelivery}
+use Rattle.dcsctp_delivery_sockets.specs.sockets.UserMessages.{sendings_of_turns, read_of}
 use Rattle.dcsctp_channel_calls.specs.api.types.declared.options.Options.{Options}
 use Rattle.dcsctp_channel_calls.specs.api.types.declared.schedule.Side.{Side}
 use Rattle.dcsctp_channel_calls.specs.api.types.Schedule.{AreHonest}
@@ -15,7 +18,7 @@ use Rattle.dcsctp_channel_calls.specs.View.{ChannelsView}
 use Rattle.dcsctp_channel_calls.specs.Polls.{PollsAs}
 use Rattle.dcsctp_channel_laws.specs.Names.{ChannelsCall, handles_input, IsCallMade}
 use Rattle.dcsctp_channel_runs.specs.Acts.{EndAct, calls, polls, MadeAct, with_end, acts_of_ends, notices_of, packets_given, AllInMemory}
-use Rattle.dcsctp_channel_runs.specs.Opened.{HearsOther}
+use Rattle.dcsctp_channel_runs.specs.Opened.{so_far, HearsOther, AreReadInOrder}
 
 -- ---- runs
 
@@ -53,6 +56,8 @@ pub record IsNewEnd (options : Options) (view : ChannelsView) : Type 0 where
   pub packets : view.layer.packets ≡ []
   pub notices : view.layer.notices ≡ []
   pub waiting : view.layer.waiting ≡ []
+  pub streams : view.layer.streams ≡ []
+  pub names : view.layer.names ≡ []
 
 abbrev pub AreNewEnds : Both Options → Both ChannelsView → Type 0
 AreNewEnds options starts = (side : Side) → IsNewEnd (of_side side options) (of_side side starts)
@@ -65,15 +70,27 @@ pub record ShowsTurns (options : Options) (turns : List Transition) (acts : List
   pub endpoint : view.below.endpoint ≡ endpoint_after options turns
   pub packets : packets_given (notices_of acts) ++ (view.layer.packets ++ packets_of_events view.below.events) ≡ packets_shown options turns
 
+-- What order asks of the direction to this side, beside what delivery asks: what the sockets ask, that no message was sent unordered, and
+-- that all was read in the association with this own tag.
+pub record KeepsOrder (options : Both Options) (turns : Both (List Transition)) (side : Side) : Type 0 where
+  pub tag : ℕ
+  pub allows : AllowsOrder (of_other side options) (of_other side turns) tag
+  pub ordered : AllByRecursion (λ sending. sending.options.unordered ≡ false) (sendings_of_turns (fresh_endpoint (of_other side options)) (of_other side turns))
+  pub whole : read_under tag (of_side side options) (of_side side turns) ≡ read_of (fresh_endpoint (of_side side options)) (of_side side turns)
+
 -- The run is one of two sockets, by honest acts. What each end tells its user of the peer is what the other user did, if no tag was
--- drawn twice, each tag serves one association or two of which one takes the other's place, and not too much was sent.
+-- drawn twice, each tag serves one association or two of which one takes the other's place, and not too much was sent. Each channel
+-- carries what is sent on it once, and in order if order is kept both ways.
 pub record IsSocketRun (options : Both Options) (starts : Both ChannelsView) (run : List MadeAct) : Type 0 where
   pub steps : List PerformedAct
   pub sockets : SocketRun options steps
   pub in_memory : AreInMemory (acts_of steps)
   pub honest : AreHonest (acts_of steps)
   pub shows : (side : Side) → ShowsTurns (of_side side options) (of_side side (turns_after steps)) (of_side side (acts_of_ends run)) (of_side side (views_after starts run))
-  pub hears : AreFresh (turns_after steps) → AllowsDelivery options steps → (side : Side) → HearsOther (acts_of_ends run) side
+  pub hears : AreFresh (turns_after steps) → AllowsDelivery options steps → (side : Side)
+      → HearsOther (of_side side (so_far run (views_after starts run))) (of_other side (so_far run (views_after starts run)))
+  pub in_order : AreFresh (turns_after steps) → AllowsDelivery options steps → ((side : Side) → KeepsOrder options (turns_after steps) side) → (side : Side)
+      → AreReadInOrder (of_side side (so_far run (views_after starts run))) (of_other side (so_far run (views_after starts run)))
 
 -- Each run of two new ends with channels is such a run.
 abbrev pub ChannelsRunSockets : Type 0
