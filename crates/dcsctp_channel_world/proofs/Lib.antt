@@ -1,0 +1,5 @@
+mod Keeping
+mod Finding
+mod Naming
+mod Applying
+mod Running

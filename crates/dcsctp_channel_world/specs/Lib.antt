@@ -1,0 +1,5 @@
+pub mod Seen
+pub mod Shown
+pub mod Steps
+pub mod Fitting
+pub mod Promises
