@@ -18,7 +18,7 @@ use Rattle.dcsctp_theorem_transfer.specs.Leaving.{AcknowledgedDataLeaves, DataLe
 
 -- ---- lengths
 
-changed_length : (change : Change) (start end : ℕ) (items : List Item) → length (changed_between change start end items) ≡ length items
+pub changed_length : (change : Change) (start end : ℕ) (items : List Item) → length (changed_between change start end items) ≡ length items
 changed_length change zero zero items = refl
 changed_length change zero (suc end) [] = refl
 changed_length change zero (suc end) (item ∷ items) = ap suc (changed_length change zero end items)
@@ -70,7 +70,7 @@ timed_length : (round_trip : Option ℕ) (t : Transfer) → outstanding_count (t
 timed_length None t = refl
 timed_length (Some round_trip) t = refl
 
-sack_leaves : AcknowledgedDataLeaves
+pub sack_leaves : AcknowledgedDataLeaves
 sack_leaves now sack old new does =
     ap (λ (t : Transfer). outstanding_count t.retransmission) does.is ∙ timed_length does.round_trip (record old { retransmission = does.left })
     ∙ items_leave now sack.cumulative_tsn_ack sack.a_rwnd does.blocks old.retransmission does.left does.acknowledges
@@ -100,7 +100,7 @@ reaches number (range ∷ ranges) = go (nat_lt (number + 1) range.first) (nat_le
     go false true is rest = grind (arith, nat_tests, is)
     go false false is rest = rest
 
-next_reached : (number cumulative : ℕ) (ranges : List TsnRange) → IsBeyond cumulative ranges → number ≡ cumulative + 1 → cumulative + 1 ≤ (ranges_with_number number cumulative ranges).cumulative
+pub next_reached : (number cumulative : ℕ) (ranges : List TsnRange) → IsBeyond cumulative ranges → number ≡ cumulative + 1 → cumulative + 1 ≤ (ranges_with_number number cumulative ranges).cumulative
 next_reached number cumulative ranges beyond is =
     subst (λ (n : ℕ). cumulative + 1 ≤ (ranges_with_number n cumulative ranges).cumulative) (sym is) (go (is_received cumulative (cumulative + 1) ranges) ((cumulative + 1) == (cumulative + 1)) (not_received cumulative ranges beyond)
     (eq-eqb (cumulative + 1) (cumulative + 1) refl))

@@ -34,7 +34,7 @@ use Rattle.dcsctp_theorem_transfer.proofs.Turns.{MayBe, all_may_come, packet_end
 -- ---- the first packet of a flush
 
 -- What is reported while a packet is filled is no packet.
-told_none : (told : List FillingEvent) (rest : List (Event Emission)) → packets_of_events (map filling_event told ++ rest) ≡ packets_of_events rest
+pub told_none : (told : List FillingEvent) (rest : List (Event Emission)) → packets_of_events (map filling_event told ++ rest) ≡ packets_of_events rest
 told_none [] rest = refl
 told_none (amount_is_low stream ∷ told) rest = told_none told rest
 told_none (total_amount_is_low ∷ told) rest = told_none told rest
@@ -87,7 +87,7 @@ allowed_some (negsuc below) core allows = absurd (cc)
 -- ---- the SACK
 
 -- It fits an empty packet.
-fits_empty : SacksFit → (e : Endpoint) (held : Held) (t : Transfer) → IsValid e.options → t.tracker.follows_rfc ≡ true
+pub fits_empty : SacksFit → (e : Endpoint) (held : Held) (t : Transfer) → IsValid e.options → t.tracker.follows_rfc ≡ true
     → nat_le (length (chunk_bytes (plain_out (own_sack (room_of_draft e (draft_to held)) t)))) (room_of_draft e (draft_to held)) ≡ true
 fits_empty law e held t valid follows =
     let room : ℕ = room_of_draft e (draft_to held) in
@@ -111,7 +111,7 @@ delayed_same now tracker BecomingDelayed = (refl, refl)
 delayed_same now tracker Delayed = (refl, refl)
 delayed_same now tracker Immediate = (refl, refl)
 
-due_says : SacksFit → (b : Bool) (e : Endpoint) (peer : Option Held) (t : Transfer) (o : Outcome) → held_by_core e.core ≡ peer → HasPeer e.core → t.tracker.follows_rfc ≡ e.options.follow_rfc
+pub due_says : SacksFit → (b : Bool) (e : Endpoint) (peer : Option Held) (t : Transfer) (o : Outcome) → held_by_core e.core ≡ peer → HasPeer e.core → t.tracker.follows_rfc ≡ e.options.follow_rfc
     → AnswersPacketIfDue b e peer t (after_packet_end e.moment t.tracker) o → SendSacks e.options → b ≡ true → BeginWithSack t.tracker (packets_of_events o.events)
 due_says law false e peer t o known has follows turn may due = absurd (cc)
 due_says law true e None t o known has follows turn may due = absurd (no_peer e.core known has)

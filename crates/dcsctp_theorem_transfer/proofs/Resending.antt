@@ -13,7 +13,7 @@ use Rattle.dcsctp_spec_lemmas.proofs.MarkedItemLemmas.{fewer_marked}
 -- ---- one place
 
 -- There is one first item that waits.
-one_place : (p q : ℕ) (items : List Item) → IsNextMarked p items → IsNextMarked q items → p ≡ q
+pub one_place : (p q : ℕ) (items : List Item) → IsNextMarked p items → IsNextMarked q items → p ≡ q
 one_place p q items a b = go (nat_lt p q) (nat_lt q p) refl refl
   where
     go : (x y : Bool) → nat_lt p q ≡ x → nat_lt q p ≡ y → p ≡ q
@@ -25,7 +25,7 @@ one_place p q items a b = go (nat_lt p q) (nat_lt q p) refl refl
         let both : true ≡ false = sym b.marked.is ∙ nothing in cc)
     go false false before after = grind (arith, nat_tests, before, after)
 
-same_item : (p q : ℕ) (items : List Item) (one other : Item) → p ≡ q → slice_get items p ≡ Some one → slice_get items q ≡ Some other → one ≡ other
+pub same_item : (p q : ℕ) (items : List Item) (one other : Item) → p ≡ q → slice_get items p ≡ Some one → slice_get items q ≡ Some other → one ≡ other
 same_item p q items one other same at there =
     let both : Some one ≡ Some other = sym at ∙ ap (λ (n : ℕ). slice_get items n) same ∙ there in cc
 
@@ -36,11 +36,11 @@ some_marked place items marked nothing =
 -- ---- steps
 
 -- Where there are some there is a first one.
-data FirstStep (Step : Stage → Stage → Type 0) (old new : Stage) : Type 0 where
+pub data FirstStep (Step : Stage → Stage → Type 0) (old new : Stage) : Type 0 where
   no_step : new ≡ old → FirstStep Step old new
   one_step : (mid : Stage) → Step old mid → StageSteps Step mid new → FirstStep Step old new
 
-first_step : (Step : Stage → Stage → Type 0) (old new : Stage) → StageSteps Step old new → FirstStep Step old new
+pub first_step : (Step : Stage → Stage → Type 0) (old new : Stage) → StageSteps Step old new → FirstStep Step old new
 first_step Step old _ none = no_step refl
 first_step Step old new (more between _ steps last) = go (first_step Step old between steps)
   where
@@ -82,11 +82,11 @@ steps_add Step adds old new (more between _ steps last) = adds_both old between 
 
 -- ---- what is counted
 
-record Alike (old new : RetransmissionState) : Type 0 where
-  outstanding : new.outstanding ≡ old.outstanding
-  sends : can_send new ≡ can_send old
+pub record Alike (old new : RetransmissionState) : Type 0 where
+  pub outstanding : new.outstanding ≡ old.outstanding
+  pub sends : can_send new ≡ can_send old
 
-counted_alike : (size : ℕ) (state : RetransmissionState) → Alike state (counted_again size state)
+pub counted_alike : (size : ℕ) (state : RetransmissionState) → Alike state (counted_again size state)
 counted_alike size state = go (nat_lt 0 size) _ (record { outstanding = refl; sends = refl })
   where
     go : (b : Bool) (one : RetransmissionState) → Alike state one → Alike state (if b then one else state)

@@ -26,7 +26,7 @@ use Rattle.dcsctp_spec_lemmas.specs.spec.queues.Retransmission.{RetransmissionSt
 use Rattle.dcsctp_spec_lemmas.specs.spec.queues.SendQueue.{SendQueueState, has_queued_data}
 use Rattle.dcsctp_spec_lemmas.specs.spec.queues.Sending.{Fragment}
 use Rattle.dcsctp_spec_lemmas.specs.spec.queues.Tracker.{TrackerState, is_sack_due, owes_acknowledgement, is_acknowledgement_due}
-use Rattle.dcsctp_spec_lemmas.specs.spec.queues.Transfer.{Transfer, is_idle, may_give}
+use Rattle.dcsctp_spec_lemmas.specs.spec.queues.Transfer.{Transfer, EndpointQueues, is_idle, may_give}
 use Rattle.dcsctp_theorem_transfer.specs.Deadlines.{IsOpen}
 use Rattle.dcsctp_theorem_transfer.specs.Resending.{IsLasting, BeginWithTsn}
 use Rattle.dcsctp_theorem_transfer.proofs.PacketEnds.{BeginsWith, out_first, allowed_some}
@@ -68,15 +68,15 @@ no_steps now old new all (more between _ steps last) =
     let lasting : IsLasting last.is_due.item = lasting_one between.queue.outstanding.items last.place last.is_due.item (subst (λ (s : Stage). AllByRecursion IsLasting s.queue.outstanding.items) (sym same) all) last.is_due.at in
     absurd (let stays = lasting_stays now between.queue.partial_reliability last.is_due.item lasting in let both : true ≡ false = sym last.is_due.due ∙ stays in cc)
 
-record NothingGivenUp (old new : Stage) (chunks : List Plain) : Type 0 where
-  same : new ≡ old
-  chunks_none : chunks ≡ []
+pub record NothingGivenUp (old new : Stage) (chunks : List Plain) : Type 0 where
+  pub same : new ≡ old
+  pub chunks_none : chunks ≡ []
 
 forwards_none : (b : Bool) (now : ℕ) (t : Transfer) (room : ℕ) (state : RetransmissionState) (next : Option ℕ) (chunks : List Plain) → b ≡ false → ForwardsIfAbandoned b now t room state next chunks → chunks ≡ []
 forwards_none false now t room state next chunks is does = does.1
 forwards_none true now t room state next chunks is does = absurd (cc)
 
-nothing_given_up : (b : Bool) (now : ℕ) (t : Transfer) (room : ℕ) (old new : Stage) (next : Option ℕ) (chunks : List Plain) → AllByRecursion IsLasting old.queue.outstanding.items
+pub nothing_given_up : (b : Bool) (now : ℕ) (t : Transfer) (room : ℕ) (old new : Stage) (next : Option ℕ) (chunks : List Plain) → AllByRecursion IsLasting old.queue.outstanding.items
     → GivesUpThenForwards b now t room old new (forward_made next chunks) → NothingGivenUp old new chunks
 nothing_given_up false now t room old new next chunks all does = record { same = does.0; chunks_none = does.2 }
 nothing_given_up true now t room old new next chunks all does =
@@ -107,7 +107,7 @@ take_none : (n : ℕ) → take {A = ℕ} n [] ≡ []
 take_none zero = refl
 take_none (suc n) = refl
 
-no_request : (follows : Bool) (peer : Option Held) (room last_tsn : ℕ) (queue : SendQueueState) → ready_streams queue ≡ [] → begun_if_connected follows peer room last_tsn queue ≡ None
+pub no_request : (follows : Bool) (peer : Option Held) (room last_tsn : ℕ) (queue : SendQueueState) → ready_streams queue ≡ [] → begun_if_connected follows peer room last_tsn queue ≡ None
 no_request follows None room last_tsn queue ready = refl
 no_request follows (Some held) room last_tsn queue ready =
     ap (λ (ids : List ℕ). begun_if_ready follows held.own_outstanding held.own_next last_tsn (map stream_field (take (streams_within room) ids))) ready
@@ -126,11 +126,11 @@ pub record Asks (e : Endpoint) (t : Transfer) (place : ℕ) : Type 0 where
   pub fits : item_size (header t.retransmission.outstanding) next.marked.item ≤ packet_size_limit e.options - 12
 
 -- The answer's chunks begin with the data of this TSN.
-record DataFirst (tsn : ℕ) (contents : List Content) : Type 0 where
-  is_interleaved : Bool
-  fragment : Fragment
-  more : List Content
-  is : contents ≡ plain (unworked (chunk_said is_interleaved tsn fragment)) ∷ more
+pub record DataFirst (tsn : ℕ) (contents : List Content) : Type 0 where
+  pub is_interleaved : Bool
+  pub fragment : Fragment
+  pub more : List Content
+  pub is : contents ≡ plain (unworked (chunk_said is_interleaved tsn fragment)) ∷ more
 
 chunks_first : (outstanding : OutstandingState) (tsn : ℕ) (later : List ℕ) (chunks : List Plain) → AreChunksOfTsns outstanding (tsn ∷ later) chunks → DataFirst tsn (plain_contents chunks)
 chunks_first outstanding tsn later [] are = absurd are
@@ -148,15 +148,15 @@ contents_alone answer none_said none_begun =
     ap (λ (l : List Plain). plain_contents l ++ (request_contents answer.begun ++ plain_contents answer.data_chunks)) none_said
     ∙ ap (λ (b : Option BegunReset). request_contents b ++ plain_contents answer.data_chunks) none_begun
 
-gives_if : (b : Bool) (queue : SendQueueState) (state : RetransmissionState) → nat_lt 0 (marked_items state.outstanding.items) ≡ b → b ≡ true → may_give queue state ≡ true
+pub gives_if : (b : Bool) (queue : SendQueueState) (state : RetransmissionState) → nat_lt 0 (marked_items state.outstanding.items) ≡ b → b ≡ true → may_give queue state ≡ true
 gives_if b queue state is some = let first : nat_lt 0 (marked_items state.outstanding.items) ≡ true = is ∙ some in ap (λ (x : Bool). x || (has_queued_data queue && can_send state)) first
 
-above_zero : (n : ℕ) → (n ≡ 0 → ⊥) → nat_lt 0 n ≡ true
+pub above_zero : (n : ℕ) → (n ≡ 0 → ⊥) → nat_lt 0 n ≡ true
 above_zero zero some = absurd (some refl)
 above_zero (suc n) some = grind (arith, nat_tests)
 
 -- once it is known what the stage is
-fills_first : (b : Bool) (now : ℕ) (old sent : Stage) (state : RetransmissionState) (place : ℕ) → b ≡ true → old.queue ≡ state → old.tsns ≡ []
+pub fills_first : (b : Bool) (now : ℕ) (old sent : Stage) (state : RetransmissionState) (place : ℕ) → b ≡ true → old.queue ≡ state → old.tsns ≡ []
     → (next : IsNextMarked place state.outstanding.items) → is_abandonment_due now state.partial_reliability next.marked.item ≡ false → can_send state ≡ true
     → item_size (header state.outstanding) next.marked.item ≤ old.room → FillsIfAllowed b now old sent → (later : List ℕ) × (sent.tsns ≡ tsn_at state.outstanding place ∷ later)
 fills_first false now old sent state place allowed is none_yet next stays may fits does = absurd (cc)
@@ -165,12 +165,25 @@ fills_first true now old sent state place allowed is none_yet next stays may fit
     resends_first now (record old { queue = state }) place next stays fits may sent (subst (λ (q : RetransmissionState). FillsPacket now (record old { queue = q }) sent) is does) in
     (went.later, went.is ∙ ap (λ (l : List ℕ). l ++ (tsn_at state.outstanding place ∷ went.later)) none_yet)
 
-empty_room : (e : Endpoint) (held : Held) → room_of_draft e (filled_draft (draft_to held) []) ≡ packet_size_limit e.options - 12
+pub empty_room : (e : Endpoint) (held : Held) → room_of_draft e (filled_draft (draft_to held) []) ≡ packet_size_limit e.options - 12
 empty_room e held = omega arith
 
-gave_first : (e : Endpoint) (held : Held) (t : Transfer) (place : ℕ) (answer : Answer) → Asks e t place → Gives first_ask e (draft_to held) t answer
-    → DataFirst (tsn_at t.retransmission.outstanding place) (answer_contents answer)
-gave_first e held t place answer asks gave =
+-- The answer is data alone, from this TSN on, which is outstanding then.
+pub record SentAlone (tsn : ℕ) (answer : Answer) : Type 0 where
+  pub left : Transfer
+  pub has : answer.after.queues.transfer ≡ Some left
+  pub later : List ℕ
+  pub are : AreChunksOfTsns left.retransmission.outstanding (tsn ∷ later) answer.data_chunks
+  pub alone : answer_contents answer ≡ plain_contents answer.data_chunks
+
+pub sent_first : (tsn : ℕ) (answer : Answer) → SentAlone tsn answer → DataFirst tsn (answer_contents answer)
+sent_first tsn answer sent =
+    let first : DataFirst tsn (plain_contents answer.data_chunks) = chunks_first sent.left.retransmission.outstanding tsn sent.later answer.data_chunks sent.are in
+    record { is_interleaved = first.is_interleaved; fragment = first.fragment; more = first.more; is = sent.alone ∙ first.is }
+
+gave_alone : (e : Endpoint) (held : Held) (t : Transfer) (place : ℕ) (answer : Answer) → Asks e t place → Gives first_ask e (draft_to held) t answer
+    → SentAlone (tsn_at t.retransmission.outstanding place) answer
+gave_alone e held t place answer asks gave =
     let sacks : gave.sacks ≡ [] =
     no_sacks (wants_sack first_ask e.queues.queue t) (room_of_draft e (draft_to held)) t gave.tracker gave.sacks
     (wants_none t.tracker.acknowledgement (has_queued_data e.queues.queue || can_send t.retransmission) asks.settled) gave.acknowledges in
@@ -195,31 +208,33 @@ gave_first e held t place answer asks gave =
     gave.sent t.retransmission place gives queue refl asks.next
     (lasting_stays e.moment t.retransmission.partial_reliability asks.next.marked.item (lasting_one t.retransmission.outstanding.items place asks.next.marked.item asks.lasting asks.next.marked.at)) asks.may
     (subst (λ (n : ℕ). item_size (header t.retransmission.outstanding) asks.next.marked.item ≤ n) (sym room) asks.fits) gave.fills in
-    let first : DataFirst (tsn_at t.retransmission.outstanding place) (plain_contents answer.data_chunks) =
-    chunks_first gave.sent.queue.outstanding (tsn_at t.retransmission.outstanding place) went.0 answer.data_chunks
-    (subst (λ (l : List ℕ). AreChunksOfTsns gave.sent.queue.outstanding l answer.data_chunks) went.1 gave.chunks) in
     record {
-      is_interleaved = first.is_interleaved;
-      fragment = first.fragment;
-      more = first.more;
-      is = contents_alone answer acknowledgements begun ∙ first.is;
+      left = record t { retransmission = gave.sent.queue; tracker = gave.tracker };
+      has = ap (λ (q : EndpointQueues). q.transfer) gave.below;
+      later = went.0;
+      are = subst (λ (l : List ℕ). AreChunksOfTsns gave.sent.queue.outstanding l answer.data_chunks) went.1 gave.chunks;
+      alone = contents_alone answer acknowledgements begun;
     }
 
-not_idle : (queue : SendQueueState) (t : Transfer) (place : ℕ) → IsNextMarked place t.retransmission.outstanding.items → is_idle queue t ≡ true → ⊥
+pub not_idle : (queue : SendQueueState) (t : Transfer) (place : ℕ) → IsNextMarked place t.retransmission.outstanding.items → is_idle queue t ≡ true → ⊥
 not_idle queue t place next idle =
     let none_there : (outstanding_count t.retransmission == 0) ≡ true = right_of _ (outstanding_count t.retransmission == 0) (left_of _ (not (owes_acknowledgement t.tracker)) (left_of _ (not (is_acknowledgement_due t.tracker)) idle)) in
     let within : place < length t.retransmission.outstanding.items = next.marked.within in
     grind (arith, nat_tests, none_there, within)
 
-answer_first : (e : Endpoint) (held : Held) (t : Transfer) (place : ℕ) (answer : Answer) (found : Option Transfer) → found ≡ Some t → Asks e t place → IsAnswerOfQueues first_ask e (draft_to held) answer found
-    → DataFirst (tsn_at t.retransmission.outstanding place) (answer_contents answer)
-answer_first e held t place answer None has asks is = absurd (cc)
-answer_first e held t place answer (Some other) has asks is =
+pub answer_alone : (e : Endpoint) (held : Held) (t : Transfer) (place : ℕ) (answer : Answer) (found : Option Transfer) → found ≡ Some t → Asks e t place → IsAnswerOfQueues first_ask e (draft_to held) answer found
+    → SentAlone (tsn_at t.retransmission.outstanding place) answer
+answer_alone e held t place answer None has asks is = absurd (cc)
+answer_alone e held t place answer (Some other) has asks is =
     go (is_idle e.queues.queue t) refl (subst (λ (x : Transfer). GivesUnlessIdle (is_idle e.queues.queue x) first_ask e (draft_to held) x answer) (let same : other ≡ t = cc in same) is)
   where
-    go : (b : Bool) → is_idle e.queues.queue t ≡ b → GivesUnlessIdle b first_ask e (draft_to held) t answer → DataFirst (tsn_at t.retransmission.outstanding place) (answer_contents answer)
+    go : (b : Bool) → is_idle e.queues.queue t ≡ b → GivesUnlessIdle b first_ask e (draft_to held) t answer → SentAlone (tsn_at t.retransmission.outstanding place) answer
     go true idle same = absurd (not_idle e.queues.queue t place asks.next idle)
-    go false idle gave = gave_first e held t place answer asks gave
+    go false idle gave = gave_alone e held t place answer asks gave
+
+answer_first : (e : Endpoint) (held : Held) (t : Transfer) (place : ℕ) (answer : Answer) (found : Option Transfer) → found ≡ Some t → Asks e t place → IsAnswerOfQueues first_ask e (draft_to held) answer found
+    → DataFirst (tsn_at t.retransmission.outstanding place) (answer_contents answer)
+answer_first e held t place answer found has asks is = sent_first (tsn_at t.retransmission.outstanding place) answer (answer_alone e held t place answer found has asks is)
 
 asked_with : (e : Endpoint) (held : Held) (answer : Answer) (tsn : ℕ) (rest : List (Event Emission)) → DataFirst tsn (answer_contents answer)
     → BeginWithTsn tsn (packets_of_events ((asked_outcome e (draft_to held) answer).events ++ rest))

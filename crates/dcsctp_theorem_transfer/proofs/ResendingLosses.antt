@@ -1,7 +1,8 @@
 -- Once T3 has expired all that was in flight waits to be sent again, and the lowest of it goes first.
-use Rattle.std.proofs.Common.{◌≡◌, ◌<◌, ◌==◌, ℕ, zero, suc, nat_lt, Bool, true, false, ◌&&◌, ◌||◌, Option, None, Some, List, [], ◌∷◌, length, refl, sym, ap, ◌∙◌, subst, slice_get, arith}
+use Rattle.std.proofs.Common.{◌≡◌, ◌≤◌, ◌<◌, ◌-◌, ◌==◌, ℕ, zero, suc, nat_lt, Bool, true, false, ◌&&◌, ◌||◌, Option, None, Some, List, [], ◌∷◌, length, refl, sym, ap, ◌∙◌, subst, slice_get, arith}
 use Rattle.std.proofs.lemmas.List.Sums.{sum_by-cons}
 use Rattle.std.specs.List.{AllByRecursion}
+use Rattle.dcsctp_spec_lemmas.specs.types.Settings.{packet_size_limit}
 use Rattle.dcsctp_spec_lemmas.specs.types.declared.progress.Change.TheVariants.{Mark}
 use Rattle.dcsctp_spec_lemmas.specs.types.declared.progress.ItemState.{ItemState}
 use Rattle.dcsctp_spec_lemmas.specs.types.declared.progress.ItemState.TheVariants.{InFlight, Marked, Acknowledged, Abandoned}
@@ -72,7 +73,7 @@ lost_length : (items : List Item) → length (lost_items items) ≡ length items
 lost_length [] = refl
 lost_length (x ∷ items) = ap suc (lost_length items)
 
-all_lost_last : (items : List Item) → AllByRecursion IsLasting items → AllByRecursion IsLasting (lost_items items)
+pub all_lost_last : (items : List Item) → AllByRecursion IsLasting items → AllByRecursion IsLasting (lost_items items)
 all_lost_last [] all = tt
 all_lost_last (x ∷ items) all = (lost_lasts x all.0, all_lost_last items all.1)
 
@@ -108,16 +109,22 @@ lowest_next e t place lowest =
 
 -- ---- the turns
 
-lost_sends : (now : ℕ) (state : RetransmissionState) → can_send (after_expiry now state) ≡ true
+pub lost_sends : (now : ℕ) (state : RetransmissionState) → can_send (after_expiry now state) ≡ true
 lost_sends now state =
     let none_there : chunk_bytes_in_flight (after_expiry now state) ≡ 0 = none_flies (header state.outstanding) state.outstanding.items in
     ap (λ (n : ℕ). (n == 0) || (nat_lt n (after_expiry now state).congestion.cwnd && nat_lt n (after_expiry now state).peer_window)) none_there
 
 -- the endpoint once T3 has expired
-abbrev after_loss : Endpoint → Transfer → Endpoint
+abbrev pub after_loss : Endpoint → Transfer → Endpoint
 after_loss e t = record (with_transfer e (lost_all e.moment t)) { error_count = error_counted e.options.max_retransmissions e.error_count }
 
-asks_then : (e : Endpoint) (t : Transfer) (place : ℕ) → SaysDataAlone e t → IsLowest e t place → Asks (after_loss e t) (lost_all e.moment t) place
+-- It waits to be sent again then, and fits.
+pub next_fits : (e : Endpoint) (t : Transfer) (place : ℕ) → IsLowest e t place
+    → (next : IsNextMarked place (lost_all e.moment t).retransmission.outstanding.items) × (item_size (header t.retransmission.outstanding) next.marked.item ≤ packet_size_limit e.options - 12)
+unfolding lowest_next
+next_fits e t place lowest = (lowest_next e t place lowest, lowest.fits)
+
+pub asks_then : (e : Endpoint) (t : Transfer) (place : ℕ) → SaysDataAlone e t → IsLowest e t place → Asks (after_loss e t) (lost_all e.moment t) place
 unfolding lowest_next
 asks_then e t place alone lowest =
     record {
@@ -129,7 +136,7 @@ asks_then e t place alone lowest =
       fits = lowest.fits;
     }
 
-expired : (e : Endpoint) (t : Transfer) (found : Option Transfer) (lost : Outcome) → found ≡ Some t → LossTurn e found lost → lost.after ≡ after_loss e t
+pub expired : (e : Endpoint) (t : Transfer) (found : Option Transfer) (lost : Outcome) → found ≡ Some t → LossTurn e found lost → lost.after ≡ after_loss e t
 expired e t None lost has turn = absurd (cc)
 expired e t (Some other) lost has turn =
     ap (λ (o : Outcome). o.after) turn ∙ ap (λ (x : Transfer). after_loss e x) (let same : other ≡ t = cc in same)

@@ -6,3 +6,8 @@ pub mod Laws
 pub mod Owing
 pub mod Resending
 pub mod Leaving
+pub mod Taking
+pub mod Hearing
+pub mod Packing
+pub mod Recovering
+pub mod Tracking

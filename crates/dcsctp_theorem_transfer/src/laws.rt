@@ -2,11 +2,16 @@
 
 ghost use Rattle.dcsctp_theorem_transfer.specs.Deadlines.{RunningTimersCount};
 ghost use Rattle.dcsctp_theorem_transfer.specs.Delaying.{SocketsAcknowledge};
+ghost use Rattle.dcsctp_theorem_transfer.specs.Hearing.{SenderHears};
 ghost use Rattle.dcsctp_theorem_transfer.specs.Laws.{TransferLaws};
 ghost use Rattle.dcsctp_theorem_transfer.specs.Leaving.{DataLeaves};
 ghost use Rattle.dcsctp_theorem_transfer.specs.Owing.{SocketsOweInTime};
+ghost use Rattle.dcsctp_theorem_transfer.specs.Packing.{SocketsFitPackets};
+ghost use Rattle.dcsctp_theorem_transfer.specs.Recovering.{LostDataComesBehind, LostDataComesThrough};
 ghost use Rattle.dcsctp_theorem_transfer.specs.Resending.{LostDataIsSentAgain};
 ghost use Rattle.dcsctp_theorem_transfer.specs.Retransmitting.{SocketsRunT3};
+ghost use Rattle.dcsctp_theorem_transfer.specs.Taking.{DataIsTaken};
+ghost use Rattle.dcsctp_theorem_transfer.specs.Tracking.{SocketsTrackReceived};
 ghost use Rattle.dcsctp_theorem_transfer.specs.Windows.{SocketsHoldPacket};
 
 use dcsctp_spec_laws::{chunks_are_controlled, sacks_fit};
@@ -65,6 +70,54 @@ pub fn data_leaves()
     ensures { DataLeaves }
 {}
 
+/// What each socket has received is a set of TSNs in its one form, and none is too far ahead for a SACK to name it (RFC
+/// 9260, sections 6.2 and 3.3.4). It is so whatever bytes it was handed, and also after a restore.
+pub fn sockets_track_received()
+    ensures { SocketsTrackReceived }
+{}
+
+/// With `Options::follow_rfc` an open association takes the data that is the next one expected, if there is room: while
+/// less than nine tenths of the receive window is in use, or less than twice the window where a later TSN came first.
+/// The cumulative TSN moves past it, and an acknowledgement is owed. Data that came before brings a SACK at once (RFC
+/// 9260, section 6.2).
+pub fn data_is_taken()
+    ensures { DataIsTaken }
+{}
+
+/// A SACK whose cumulative TSN ack is of the lowest outstanding TSN, or of a later one that was sent, leaves fewer items
+/// outstanding. Once its turn is over, whatever that sends, the lowest outstanding TSN is the one after it, and no error
+/// counts (RFC 9260, sections 6.2.1 and 8.1).
+pub fn sender_hears()
+    ensures { SenderHears }
+{}
+
+/// Each item that is outstanding fits a packet of the socket, header and padding included: nothing that was sent is too
+/// long to be sent again (RFC 9260, section 6.1). It is so as long as no act comes from outside: a snapshot may bring
+/// longer ones.
+pub fn sockets_fit_packets()
+    ensures { SocketsFitPackets }
+{
+    sockets_keep_options();
+}
+
+/// What was lost comes through (RFC 9260, sections 6.2, 6.2.1 and 6.3.3). T3 expires at a socket that has nothing but data
+/// to say, and a flush follows. The other one is Established, has all before the lowest outstanding TSN and nothing that
+/// wasn't sent, and is handed the first packet. It answers by a SACK, at once or after its delay. Once the first socket has
+/// that, the lowest TSN is acknowledged.
+pub fn lost_data_comes_through()
+    ensures { LostDataComesThrough }
+{
+    sacks_fit();
+}
+
+/// The same of a socket that may owe an acknowledgement, if a flush may send two packets: a SACK may be in front of the
+/// first, and the data behind it or in the second one.
+pub fn lost_data_comes_behind()
+    ensures { LostDataComesBehind }
+{
+    sacks_fit();
+}
+
 /// All that is known of the transfer layer of an association: the laws above.
 pub fn transfer_laws()
     ensures { TransferLaws }
@@ -76,4 +129,10 @@ pub fn transfer_laws()
     running_timers_count();
     lost_data_is_sent_again();
     data_leaves();
+    sockets_fit_packets();
+    data_is_taken();
+    sender_hears();
+    sockets_track_received();
+    lost_data_comes_through();
+    lost_data_comes_behind();
 }

@@ -6,6 +6,8 @@
 mod laws;
 
 pub use laws::{
-    data_leaves, lost_data_is_sent_again, running_timers_count, sockets_acknowledge,
-    sockets_hold_packet, sockets_owe_in_time, sockets_run_t3, transfer_laws,
+    data_is_taken, data_leaves, lost_data_comes_behind, lost_data_comes_through,
+    lost_data_is_sent_again, running_timers_count, sender_hears, sockets_acknowledge,
+    sockets_fit_packets, sockets_hold_packet, sockets_owe_in_time, sockets_run_t3,
+    sockets_track_received, transfer_laws,
 };
