@@ -158,14 +158,16 @@ static void turn(struct end *end, int longest) {
 
 /* ---- Receiving ------------------------------------------------------------------------------ */
 
-/* Receives until the association has ended, or the parent is gone. */
+/* Receives until the association has ended, or the parent is gone. The channel may end with it: the
+ * parent shuts down when its own reset and the child's are done, and the last answer may be lost. */
 static int receive_file(int fd, long loss, FILE *out, pid_t parent) {
     static struct end end;
     create(&end, fd, loss, out);
     while (!end.ended && getppid() == parent)
         turn(&end, 1000);
     dcsctp_destroy(&end.socket);
-    return fclose(out) != 0 || !end.closed || end.why != DCSCTP_CHANNEL_CLOSED_BY_RESETS;
+    return fclose(out) != 0 || !end.closed ||
+           (end.why != DCSCTP_CHANNEL_CLOSED_BY_RESETS && end.why != DCSCTP_CHANNEL_LOST);
 }
 
 /* ---- Sending -------------------------------------------------------------------------------- */
