@@ -1,10 +1,11 @@
 //! What waits on one stream.
 
+mod handover;
 mod numbering;
 mod progress;
 
 use crate::message::QueuedMessage;
-use dcsctp_api::types::{HandoverOutgoingStream, HandoverStreamMessage, Pause, Turn, UnderWay};
+use dcsctp_api::types::{Pause, Turn, UnderWay};
 use dcsctp_api::{Events, SocketTime, StreamId};
 use std::alloc::{AllocError, Global};
 use std::collections::VecDeque;
@@ -77,9 +78,7 @@ impl OutgoingStream {
     ghost use Rattle.std.specs.List.{list_any};
     ghost use Rattle.dcsctp_api.specs.spec.queues.OwnResets.{is_lasting, count_under_way};
     ghost use Rattle.dcsctp_api.specs.spec.queues.Readiness.{is_paused};
-    ghost use Rattle.std.specs.Prelude.{map, IfOk};
-    ghost use Rattle.dcsctp_api.specs.types.SnapshotItems.{queued_part};
-    ghost use Rattle.dcsctp_api.specs.spec.queues.QueuedParts.{whole_message, stream_given, emptied_stream, stream_restored, with_rest};
+    ghost use Rattle.dcsctp_api.specs.spec.queues.QueuedParts.{emptied_stream, with_rest};
 
     /// A stream that was never used. Allocates nothing.
     pub fn new(alloc: Global, id: StreamId, priority: u16, threshold: usize) -> OutgoingStream
@@ -228,38 +227,6 @@ impl OutgoingStream {
         Ok(())
     }
 
-    /// What a snapshot has of its numbers and its priority.
-    pub fn handover_stream(&self) -> HandoverOutgoingStream
-        ensures { result ≡ stream_given self.now }
-    {
-        HandoverOutgoingStream {
-            id: self.id.0,
-            next_ssn: self.next_ssn,
-            next_unordered_mid: self.next_unordered_mid,
-            next_ordered_mid: self.next_mid,
-            priority: self.priority,
-        }
-    }
-
-    /// What a snapshot that is made at the moment `now` has of its messages if all wait whole. `Err`: an
-    /// allocation failed.
-    pub fn handover_messages(
-        &self,
-        alloc: Global,
-        now: SocketTime,
-    ) -> Result<Vec<HandoverStreamMessage>, AllocError>
-        ensures { IfOk result
-            (λ parts. map queued_part parts.items
-            ≡ map (whole_message now self.now.id) self.now.messages) }
-    {
-        let mut parts = Vec::with_capacity(alloc, self.messages.len())?;
-        for place in 0..self.messages.len() {
-            let message = &self.messages[place];
-            parts.push(message.handover_message(alloc, now, self.id)?)?;
-        }
-        Ok(parts)
-    }
-
     /// Adds a message after the others. `Err`: an allocation failed, and nothing has changed.
     #[inline(always)]
     pub fn push(&mut self, message: QueuedMessage) -> Result<(), AllocError>
@@ -278,8 +245,6 @@ impl OutgoingStream {
         ensures ok { OnOk result (self.new ≡ with_rest message rest self.old) }
         ensures err { OnErr result (self.new ≡ self.old) }
     {
-        let size = message.size();
-        let _ = size;
         self.messages.push_back(message)?;
         self.amount = self.amount.saturating_add(rest);
         Ok(())
@@ -296,16 +261,6 @@ impl OutgoingStream {
         self.last_turn = 0;
         self.turn_bytes = 0;
         self.begin_anew();
-    }
-
-    /// Gives it the numbers and the priority that a snapshot has.
-    pub fn restore(&mut self, named: &HandoverOutgoingStream)
-        ensures { self.new ≡ stream_restored named.now self.old }
-    {
-        self.next_ssn = named.next_ssn;
-        self.next_mid = named.next_ordered_mid;
-        self.next_unordered_mid = named.next_unordered_mid;
-        self.priority = named.priority;
     }
 
     /// Takes its oldest message.
