@@ -13,6 +13,7 @@ pub mod SendingRuns
 pub mod KeptSteps
 pub mod SentBefore
 pub mod Window
+pub mod Deferred
 pub mod KeptRuns
 pub mod Behind
 pub mod AskedBounds

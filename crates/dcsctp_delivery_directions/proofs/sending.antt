@@ -1,6 +1,7 @@
 pub mod Places
 pub mod Weights
 pub mod Newest
+pub mod OneMessage
 pub mod StreamWeights
 pub mod CountedFragments
 pub mod Streams
@@ -33,7 +34,9 @@ pub mod StillWaiting
 pub mod Held
 pub mod Chunks
 pub mod Acknowledged
+pub mod Highest
 pub mod Entries
+pub mod RowNames
 pub mod Extended
 pub mod Packets
 pub mod Noted

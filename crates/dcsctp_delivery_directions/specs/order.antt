@@ -5,6 +5,7 @@ pub mod Epochs
 pub mod Reading
 pub mod Parts
 pub mod Reach
+pub mod Skips
 pub mod Incoming
 pub mod Gaps
 pub mod Sending

@@ -6,6 +6,7 @@ pub mod Numbers
 pub mod Pieces
 pub mod Stages
 pub mod Acknowledged
+pub mod Naming
 pub mod Flushes
 pub mod Queueing
 pub mod Marking

@@ -15,17 +15,18 @@ pub fn directions_send_by_epoch()
 /// With interleaving each reset of a stream that the receiver performs separates the messages of the stream, ordered or
 /// not: those that were read or are ready then were queued before the reset was asked for, and those that come later since
 /// (RFC 6525, section 5.2.2). A request that is sent again under another number, and performed twice, separates them
-/// twice at the same message. Where the sender began with all that was queued, no message without limits is left out
-/// before another of its epoch that is read. If nothing of the stream waited when the reset was asked for, each ordered
-/// message of its epoch is read or ready when it is performed, as long as no ordered message of the stream before has
-/// limits and the receive window is of 2^63 bytes or less.
+/// twice at the same message. Where the sender began with all that was queued, no ordered message without limits is left
+/// out before another of its epoch that is read. If nothing of the stream waited when the reset was asked for, each
+/// ordered message of its epoch without limits is read or ready when it is performed. Both hold whatever limits other
+/// messages have, if the receive window is of 2^63 bytes or less.
 pub fn directions_deliver_by_epoch()
     ensures { DirectionsDeliverByEpoch }
 {}
 
 /// With interleaving each reset of a stream that the receiver performs was asked for by the sender's user (RFC 6525,
 /// section 5.1.2): of the messages of the stream, ordered or not, those that were read or are ready then were queued
-/// before that, and those that come later since. Between two requests none without limits is left out.
+/// before that, and those that come later since. Between two requests no ordered one without
+/// limits is left out.
 pub fn directions_cut_as_asked()
     ensures { DirectionsCutAsAsked }
 {}

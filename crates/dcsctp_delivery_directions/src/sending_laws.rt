@@ -36,7 +36,9 @@ pub fn acknowledging_keeps()
 /// All data of a flush carries pieces of what was queued, each under its TSN. A FORWARD-TSN passes TSNs that were
 /// assigned, and a request to reset streams is that of a reset that was begun (RFC 6525, section 5.1.2). A message of
 /// such a stream is never passed together with TSNs after the reset. Streams that wait for the end of a reset send
-/// nothing.
+/// nothing. An I-FORWARD-TSN names each message of which it passes a TSN that isn't acknowledged, or a later one of its
+/// stream that is ordered or unordered as it is; and it names only such as may be abandoned, of which it passes a TSN
+/// (RFC 8260, section 2.3.1).
 pub fn flushes_send_pieces()
     ensures { FlushesSendPieces }
 {}

@@ -7,3 +7,4 @@ pub mod Epochs
 pub mod Delivery
 pub mod Shown
 pub mod ShownDelivery
+pub mod Kinds

@@ -1,6 +1,7 @@
 //! The laws of this crate.
 
 ghost use Rattle.dcsctp_delivery_sockets.specs.sockets.ShownDelivery.{UsersReadWhatWasSent};
+ghost use Rattle.dcsctp_delivery_sockets.specs.sockets.Kinds.{FlightsAreAsNegotiated};
 ghost use Rattle.dcsctp_delivery_sockets.specs.sockets.Shown.{ShownTagsSuffice};
 
 use crate::sockets_deliver;
@@ -18,6 +19,21 @@ use dcsctp_wire_laws::built_packet_reads_as_itself;
 /// association begins and ends in one act.
 pub fn shown_tags_suffice()
     ensures { ShownTagsSuffice }
+{
+    effects_mean();
+    acts_are_controlled();
+    chunks_are_controlled();
+    packets_are_controlled();
+    admitted_packets_may_be_worked();
+    offer_reads_back();
+    built_packet_reads_as_itself();
+    answer_keeps_agreement();
+}
+
+/// What a socket has in flight is sent as both have negotiated: as DATA or I-DATA (RFC 8260), and so that messages may
+/// be abandoned or not (RFC 3758), as long as no act comes from outside and no tag is drawn twice.
+pub fn flights_are_as_negotiated()
+    ensures { FlightsAreAsNegotiated }
 {
     effects_mean();
     acts_are_controlled();

@@ -61,8 +61,9 @@ pub fn acts_keep_ends()
 /// that a user is told is performed, the peer's user was told of, with the same streams. Where messages interleave, each
 /// reset that a user is told its peer has made, the peer's user asked for by a call that was accepted: of a stream that
 /// it names, the messages read before, or ready by then, were sent before that call, and those read later since. Where
-/// the sender has no other own tag, what is read of the ordered messages between two such calls is a prefix of them, if
-/// none has limits.
+/// the sender has no other own tag, what is read of the ordered messages without limits between two such calls is a
+/// prefix of them; and if none of the stream waited at the later call, it is all of them. Messages with limits among
+/// them make no difference.
 pub fn sockets_deliver()
     ensures { SocketsDeliver }
 {

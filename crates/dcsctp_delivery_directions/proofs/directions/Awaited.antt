@@ -106,7 +106,7 @@ module _ (options : Options) (first size : ℕ) where
   nothing_after old _ (receives_interleaved emission chunk theirs new was holds some same same' does) s h = absurd (no_entry old emission s.sent was)
   nothing_after old _ (forwards_interleaved emission tsn streams theirs new was holds same same' does) s h = absurd (no_entry old emission s.sent was)
   nothing_after old _ (tracks new cumulative ranges) s h = record { cumulative = cumulative ∙ h.cumulative; ranges = ranges ∙ h.ranges; reassembly = h.reassembly; read = h.read; performed = h.performed }
-  nothing_after old _ (defers last_tsn streams some) s h = absurd (none_has old.asking.requests streams some s.asked)
+  nothing_after old _ (defers last_tsn streams some) s h = absurd (none_has old.asking.requests streams some.asked s.asked)
   nothing_after old _ (performs newest earlier new asks kept reached own does) s h = absurd (none_asked newest earlier old.asking.requests s.asked asks)
   nothing_after old _ (performs_earlier newest earlier new asks kept reached own does) s h = absurd (none_asked newest earlier old.asking.requests s.asked asks)
   nothing_after old _ (resets streams new unmixed some does) s h = absurd (none_has old.asking.requests streams some s.asked)

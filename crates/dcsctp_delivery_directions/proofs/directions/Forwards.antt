@@ -1,5 +1,5 @@
 -- Where no message has limits, none is abandoned, and no FORWARD-TSN is sent.
-use Rattle.std.proofs.Common.{◌≡◌, ℕ, true, false, ◌<◌, ◌^◌, List, [], ◌∷◌, length, sym, ◌∙◌, subst, inl, inr}
+use Rattle.std.proofs.Common.{Bool, ◌≡◌, ℕ, true, false, ◌<◌, ◌^◌, List, [], ◌∷◌, length, sym, ◌∙◌, subst, inl, inr}
 use Rattle.dcsctp_spec.specs.wire.Content.{ChunkContent, data_chunk, i_data_chunk, init_chunk, init_ack_chunk, sack_chunk, heartbeat_chunk, heartbeat_ack_chunk, abort_chunk, shutdown_chunk, shutdown_ack_chunk, error_chunk, cookie_echo_chunk, cookie_ack_chunk, shutdown_complete_chunk, re_config_chunk, forward_tsn_chunk, i_forward_tsn_chunk, unknown_chunk}
 use Rattle.dcsctp_spec.specs.types.declared.options.Options.{Options}
 use Rattle.dcsctp_spec.specs.Packet.{unknown, heartbeat, heartbeat_ack, unworked, plain, init, init_ack, cookie_echo, cookie_ack, re_config, abort, shutdown, shutdown_ack, shutdown_complete, Content, Emission}
@@ -15,18 +15,18 @@ use Rattle.dcsctp_delivery_directions.proofs.directions.Directions.{run_stands}
 -- ---- messages without limits
 
 -- No piece of the log is of a message with limits.
-pub none_limited : (queued : List Message) (history : History) → IsLogOfPieces queued history.log → AreUnlimited queued → HasLimited history.log → ⊥
-none_limited queued history cut are has =
+pub none_limited : (queued : List Message) (history : History) → IsLogOfPieces queued history.log → (b : Bool) → AreUnlimited queued → HasLimited b history.log → ⊥
+none_limited queued history cut b are has =
     let free = unlimited_at queued has.piece.place has.piece.message are (cut.pieces has.number has.piece has.at).at in
     let clash : true ≡ false = sym has.limited ∙ free in
     absurd (cc)
 
 -- ---- what packets say
 
-module _ (history : History) (first acknowledged : ℕ) (none : HasLimited history.log → ⊥) where
+module _ (history : History) (first acknowledged : ℕ) (none : (b : Bool) → HasLimited b history.log → ⊥) where
   chunk_forwards : (chunk : ChunkContent) → SaysContent history first acknowledged (plain (unworked chunk)) → IsNoForward (plain (unworked chunk))
-  chunk_forwards (forward_tsn_chunk t bs) says = none says.limited
-  chunk_forwards (i_forward_tsn_chunk t bs) says = none says.limited
+  chunk_forwards (forward_tsn_chunk t bs) says = none false says.limited
+  chunk_forwards (i_forward_tsn_chunk t bs) says = none true says.limited
   chunk_forwards (data_chunk d) says = tt
   chunk_forwards (i_data_chunk d) says = tt
   chunk_forwards (init_chunk c) says = tt
@@ -73,7 +73,7 @@ pub unlimited_forward_nothing : (options : Options) (first size : ℕ) (directio
     → AreUnlimited direction.queued → NoneForwards direction.sent
 unlimited_forward_nothing options first size direction run small few are =
     let s = run_stands options first size direction small few run in
-    packets_forward s.history first direction.acknowledged (none_limited direction.queued s.history s.queues.cut are) direction.sent s.packets
+    packets_forward s.history first direction.acknowledged (λ b. none_limited direction.queued s.history s.queues.cut b are) direction.sent s.packets
 
 -- ---- So none is received.
 

@@ -187,17 +187,17 @@ opened_so options first size _ (goes_on old direction run step) from id = opened
 opened_so options first size _ (starts old queued below beginning run awaited fit waits none begun) from id = (begun.zero from).unpaused id
 
 -- Where the sender began with all that was queued, it is known when each reset was asked for.
-whole_before : (beginning : Beginning) (queued : List Message) (id end : ℕ) (places : List ℕ) → beginning.has_all ≡ true → LeaveNoGapBefore (known_asks beginning id) queued id end places → LeaveNoGapBefore (beginning.asks id) queued id end places
-whole_before beginning queued id end places whole = subst (λ (b : Bool). LeaveNoGapBefore (λ (count : ℕ). if b then beginning.asks id count else true) queued id end places → LeaveNoGapBefore (beginning.asks id) queued id end places) (sym whole) (λ gap. gap)
+whole_before : (sized : Bool) (beginning : Beginning) (queued : List Message) (id end : ℕ) (places : List ℕ) → beginning.has_all ≡ true → LeaveNoGapBefore sized (known_asks beginning id) queued id end places → LeaveNoGapBefore sized (beginning.asks id) queued id end places
+whole_before sized beginning queued id end places whole = subst (λ (b : Bool). LeaveNoGapBefore sized (λ (count : ℕ). if b then beginning.asks id count else true) queued id end places → LeaveNoGapBefore sized (beginning.asks id) queued id end places) (sym whole) (λ gap. gap)
 
 whole_all : (beginning : Beginning) (queued : List Message) (id index : ℕ) (cut : Cut) (places : List ℕ) → beginning.has_all ≡ true → cut.index ≡ index → HaveAllBefore (known_asks beginning id) queued id cut places
     → HaveAllBefore (beginning.asks id) queued id (record { index = index; place = cut.place; is_whole = true }) places
-whole_all beginning queued id index cut places whole same all free place on below one =
+whole_all beginning queued id index cut places whole same all place on free below one =
     subst (λ (k : ℕ). HasEntry place (take k places)) same
-    (all free place on below (λ count from to. ap (λ (b : Bool). if b then beginning.asks id count else true) whole ∙ one count from to))
+    (all place on free below (λ count from to. ap (λ (b : Bool). if b then beginning.asks id count else true) whole ∙ one count from to))
 
 pub directions_cut_as_asked : (options : Options) (first size : ℕ) (direction : Direction) → DirectionRun options first size direction → first < 2 ^ 32 → assigned_count direction < 2 ^ 31 → length direction.queued < 2 ^ 64
-    → direction.queues.queue.is_interleaved ≡ true → direction.beginning.from_zero ≡ true → AreCutAsAsked direction.beginning.has_all direction.beginning.asks (known_fulls size direction.beginning) direction.performed direction.queued direction.read
+    → direction.queues.queue.is_interleaved ≡ true → direction.beginning.from_zero ≡ true → AreCutAsAsked direction.beginning.has_all (nat_le size (2 ^ 63)) direction.beginning.asks (known_fulls size direction.beginning) direction.performed direction.queued direction.read
 directions_cut_as_asked options first size direction run small little few interleaved from =
     let d = directions_deliver_by_epoch options first size direction run small little few interleaved from in
     let a = run_asks options first size direction small few run in
@@ -210,10 +210,10 @@ directions_cut_as_asked options first size direction run small little few interl
             asked = c.asked;
             before = d.before id c.cut c.has;
             separates = subst (λ (k : ℕ). Separates direction.queued id k c.cut.place d.ordered.delivered.places) c.index_is (d.epochs id c.cut c.has);
-            no_gap = λ whole. whole_before direction.beginning direction.queued id c.cut.place d.ordered.delivered.places whole (d.no_gaps id c.cut c.has);
+            no_gap = λ whole. whole_before (nat_le size (2 ^ 63)) direction.beginning direction.queued id c.cut.place d.ordered.delivered.places whole (d.no_gaps id c.cut c.has);
             all = λ whole full low. whole_all direction.beginning direction.queued id reset.index c.cut d.ordered.delivered.places whole c.index_is
                 (d.complete id c.cut c.has (c.whole_is ∙ ap (λ (b : Bool). b && known_fulls size direction.beginning id c.cut.place) whole ∙ full) (let same = c.index_is in omega (arith, low, same)));
           }
           );
-      no_gap = λ whole id. whole_before direction.beginning direction.queued id (length direction.queued) d.ordered.delivered.places whole (d.no_gap id);
+      no_gap = λ whole id. whole_before (nat_le size (2 ^ 63)) direction.beginning direction.queued id (length direction.queued) d.ordered.delivered.places whole (d.no_gap id);
     }

@@ -14,6 +14,7 @@ use Rattle.dcsctp_delivery_directions.specs.order.Received.{none_quiet}
 use Rattle.dcsctp_delivery_directions.proofs.order.Directions.{Unended, step_keeps}
 use Rattle.dcsctp_delivery_directions.proofs.order.Quiet.{Arrives, arrives_later}
 use Rattle.dcsctp_delivery_directions.proofs.order.Steps.{arrives_on}
+use Rattle.dcsctp_delivery_directions.specs.order.Received.{IsLastAssigned, IsNamedWaiting}
 use Rattle.dcsctp_delivery_directions.proofs.order.Unsent.{received_none}
 use Rattle.dcsctp_delivery_directions.specs.epochs.Sending.{EpochBounds, never_asked, is_open, SendsByEpoch}
 use Rattle.dcsctp_delivery_directions.specs.epochs.Cuts.{known_asks, is_cut_whole}
@@ -119,7 +120,7 @@ module _ (sized : Bool) (first : ℕ) (old : Direction) (small : first < 2 ^ 32)
 
   -- where none is performed either
   pub further_same : (direction : Direction) (few : length direction.queued < 2 ^ 64) (step : DirectionStep old direction) → EndsNone old direction step
-      → (length stands.history.log < 2 ^ 31 → sized ≡ true → ((first + (2 ^ 32 - 1)) % 2 ^ 32 + old.acknowledged ≤ old.tracker.cumulative) × (old.reassembly.max_size ≤ 2 ^ 63)) → DeliversSo sized first direction opened (asked_after old direction step asked) cuts
+      → (length stands.history.log < 2 ^ 31 → sized ≡ true → ((first + (2 ^ 32 - 1)) % 2 ^ 32 + old.acknowledged ≤ old.tracker.cumulative) × (old.reassembly.max_size ≤ 2 ^ 63) × IsLastAssigned stands.history first old.reassembly.deferral × IsNamedWaiting old.reassembly.deferral) → DeliversSo sized first direction opened (asked_after old direction step asked) cuts
   further_same direction few step ends covered =
       further direction few step cuts (λ id cut has. has) ends d.behind
       (λ before interleaved from. arrives_on (watch_of sized (known_asks old.beginning) cuts) first old small stands (goes_in_turn first old small opened asked d.goes d.keeps interleaved) before interleaved direction step ends d.named (d.unended interleaved) (λ id known. covered before known) (d.arrives before interleaved from))

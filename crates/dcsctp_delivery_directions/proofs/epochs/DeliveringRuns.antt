@@ -23,7 +23,7 @@ use Rattle.dcsctp_delivery_directions.specs.order.Incoming.{IncomingOrdered}
 use Rattle.dcsctp_delivery_directions.specs.order.Epochs.{SendsEpochsInTurn}
 use Rattle.dcsctp_delivery_directions.specs.order.Queue.{IsOrderedOn, ComeInOrder, Cut, AreSeparated, LeaveNoGapBefore}
 use Rattle.dcsctp_delivery_directions.specs.order.Reading.{CountsFromZero}
-use Rattle.dcsctp_delivery_directions.specs.order.Received.{ReassemblesInOrder, none_handled, some_handled}
+use Rattle.dcsctp_delivery_directions.specs.order.Received.{ReassemblesInOrder, none_handled, some_handled, IsLastAssigned, IsNamedWaiting}
 use Rattle.dcsctp_delivery_directions.proofs.order.Beginning.{waits_from}
 use Rattle.dcsctp_delivery_directions.proofs.order.Directions.{raised_zero}
 use Rattle.dcsctp_delivery_directions.proofs.order.Follows.{counts_from_zero}
@@ -39,6 +39,7 @@ use Rattle.dcsctp_delivery_directions.proofs.epochs.SendingRuns.{goes_further, g
 use Rattle.dcsctp_delivery_directions.proofs.epochs.Behind.{watch_of, IsPending, AreBehind}
 use Rattle.dcsctp_delivery_directions.proofs.epochs.Delivering.{DeliversSo, delivers_new, further, further_same, IsEndedCut}
 use Rattle.dcsctp_delivery_directions.proofs.epochs.Window.{window_of}
+use Rattle.dcsctp_delivery_directions.proofs.epochs.Deferred.{deferral_known}
 use Rattle.dcsctp_delivery_directions.proofs.epochs.Performing.{added, added_behind, added_grows, recut, sent_leaves, newest_separates, handed_halts, were_length}
 use Rattle.std.proofs.lemmas.Bool.Decides.{nat_tests}
 use Rattle.dcsctp_delivery_directions.proofs.directions.Receiving.{known_log, known_kinds}
@@ -107,20 +108,20 @@ module _ (sized : Bool) (first : ℕ) (old : Direction) (small : first < 2 ^ 32)
 
     -- it separates what was queued before
     ends_separate : (got : List ℕ) → got ≡ arrived.received.got → (base : ℕ) (o : IncomingOrdered (watch_of sized (known_asks old.beginning) cuts) (sent_messages old.queued stands.history) arrived.quiet got base arrived.places old.reassembly.incoming) (id : ℕ)
-        → is_handed_out (stream_named id old.queues.queue.streams).pause ≡ true → AreSeparated (known_asks old.beginning id) old.queued id (ended_cuts id) (arrived.places ++ o.holds.places)
+        → is_handed_out (stream_named id old.queues.queue.streams).pause ≡ true → AreSeparated sized (known_asks old.beginning id) old.queued id (ended_cuts id) (arrived.places ++ o.holds.places)
     ends_separate got same base o id handed =
-        subst (λ (b : Bool). AreSeparated (known_asks old.beginning id) old.queued id (if b then cut_added index (is_cut_whole sized old.beginning id) (asked id).newest (cuts id) else cuts id) (arrived.places ++ o.holds.places)) (sym handed) (go (asked id).newest refl)
+        subst (λ (b : Bool). AreSeparated sized (known_asks old.beginning id) old.queued id (if b then cut_added index (is_cut_whole sized old.beginning id) (asked id).newest (cuts id) else cuts id) (arrived.places ++ o.holds.places)) (sym handed) (go (asked id).newest refl)
       where
-        was : AreSeparated (known_asks old.beginning id) old.queued id (cuts id) (arrived.places ++ o.holds.places)
+        was : AreSeparated sized (known_asks old.beginning id) old.queued id (cuts id) (arrived.places ++ o.holds.places)
         was = separated_where (watch_of sized (known_asks old.beginning) cuts id) old.queued stands.history (arrived.quiet id) id (arrived.places ++ o.holds.places) (o.holds.waits id) (stream_on id old.reassembly.incoming.streams) (o.order id (counts_of id))
 
-        go : (newest : Option ℕ) → (asked id).newest ≡ newest → AreSeparated (known_asks old.beginning id) old.queued id (cut_added index (is_cut_whole sized old.beginning id) newest (cuts id)) (arrived.places ++ o.holds.places)
+        go : (newest : Option ℕ) → (asked id).newest ≡ newest → AreSeparated sized (known_asks old.beginning id) old.queued id (cut_added index (is_cut_whole sized old.beginning id) newest (cuts id)) (arrived.places ++ o.holds.places)
         go None is = was
         go (Some place) is =
             newest_separates sized first old opened asked cuts d interleaved id got (arrived.places ++ o.holds.places) place index is (handed_halts sized first old opened asked cuts d interleaved id place handed is)
             (length-append arrived.places o.holds.places
             ∙ (let one = were_length old.queued arrived.places old.read arrived.were in let two = were_length old.queued o.holds.places old.reassembly.incoming.ready o.holds.were_queued in omega (arith, one, two))) o.holds.spent was
-            (no_gap_where (watch_of sized (known_asks old.beginning) cuts id) old.queued stands.history (arrived.quiet id) id (arrived.places ++ o.holds.places) (o.holds.waits id) (stream_on id old.reassembly.incoming.streams) (counts_of id)
+            (no_gap_where (watch_of sized (known_asks old.beginning) cuts id) old.queued stands.history (arrived.quiet id) id (arrived.places ++ o.holds.places) (o.holds.waits id) (stream_on id old.reassembly.incoming.streams) stands.queues.cut (counts_of id)
             (goes_in_turn first old small opened asked d.goes d.keeps interleaved id) (o.order id (counts_of id)))
             (λ knows. ended_are_read (watch_of sized (known_asks old.beginning) cuts) first old small stands before interleaved one performed (d.zero interleaved from) (λ id known. window known) arrived got same base o id handed knows)
 
@@ -151,7 +152,7 @@ module _ (sized : Bool) (first : ℕ) (old : Direction) (small : first < 2 ^ 32)
 
   -- ---- each step
 
-  delivers_on : (direction : Direction) (few : length direction.queued < 2 ^ 64) (step : DirectionStep old direction) → (length stands.history.log < 2 ^ 31 → sized ≡ true → ((first + (2 ^ 32 - 1)) % 2 ^ 32 + old.acknowledged ≤ old.tracker.cumulative) × (old.reassembly.max_size ≤ 2 ^ 63)) → DeliversSo sized first direction opened (asked_after old direction step asked) (cuts_after sized old direction step asked cuts)
+  delivers_on : (direction : Direction) (few : length direction.queued < 2 ^ 64) (step : DirectionStep old direction) → (length stands.history.log < 2 ^ 31 → sized ≡ true → ((first + (2 ^ 32 - 1)) % 2 ^ 32 + old.acknowledged ≤ old.tracker.cumulative) × (old.reassembly.max_size ≤ 2 ^ 63) × IsLastAssigned stands.history first old.reassembly.deferral × IsNamedWaiting old.reassembly.deferral) → DeliversSo sized first direction opened (asked_after old direction step asked) (cuts_after sized old direction step asked cuts)
   delivers_on _ few (commits go_on) covered = ends few go_on (λ before known. (covered before known).1)
   delivers_on _ few (rolls_back unmixed) covered =
       record {
@@ -206,7 +207,8 @@ run_delivers options first size _ small few (goes_on old direction run step) =
     let count = (run_delivers options first size old small (omega (arith, few, more_queued old direction step)) run).goes.stands.count in
     let limit : size ≤ 2 ^ 63 = grind (arith, nat_tests, known) in
     let window = window_of options first size old run in
-    (acknowledgements_are_true options first size old run small (omega (arith, little, count)) (omega (arith, few, more_queued old direction step)), omega (arith, limit, window))
+    let deferral = deferral_known options first size old run (run_delivers options first size old small (omega (arith, few, more_queued old direction step)) run).goes.stands in
+    (acknowledgements_are_true options first size old run small (omega (arith, little, count)) (omega (arith, few, more_queued old direction step)), omega (arith, limit, window), deferral.0, deferral.1)
     ))
 run_delivers options first size _ small few (starts old queued below beginning run awaited fit waits idle begun) =
     let none_queued : length old.queued ≡ 0 = ap (λ (l : List Message). length l) awaited.queued in
@@ -226,15 +228,15 @@ module _ (queued : List Message) (id : ℕ) where
         | inr t ↦ across xs ys x y are.1 t has' on on'
       ]
 
-before_front : (asks : ℕ → Bool) (queued : List Message) (id end : ℕ) (xs ys : List ℕ) → ComeInOrder queued id (xs ++ ys) → LeaveNoGapBefore asks queued id end (xs ++ ys) → LeaveNoGapBefore asks queued id end xs
-before_front asks queued id end xs ys are gap earlier later has on on' less below one free =
-    elim (has_either earlier xs ys (gap earlier later (has_left later xs ys has) on on' less below one free)) [
+before_front : (knows : Bool) (asks : ℕ → Bool) (queued : List Message) (id end : ℕ) (xs ys : List ℕ) → ComeInOrder queued id (xs ++ ys) → LeaveNoGapBefore knows asks queued id end (xs ++ ys) → LeaveNoGapBefore knows asks queued id end xs
+before_front knows asks queued id end xs ys are gap earlier later has on on' spared less below one free =
+    elim (has_either earlier xs ys (gap earlier later (has_left later xs ys has) on on' spared less below one free)) [
       | inl l ↦ l
       | inr r ↦ absurd (let more = across queued id xs ys later earlier are has r on on' in omega (arith, more, less))
     ]
 
 pub directions_deliver_by_epoch : (options : Options) (first size : ℕ) (direction : Direction) (run : DirectionRun options first size direction) → first < 2 ^ 32 → assigned_count direction < 2 ^ 31 → length direction.queued < 2 ^ 64
-    → direction.queues.queue.is_interleaved ≡ true → direction.beginning.from_zero ≡ true → AreDeliveredByEpoch (known_asks direction.beginning) (cuts_of options first size direction run) direction.queued direction.read
+    → direction.queues.queue.is_interleaved ≡ true → direction.beginning.from_zero ≡ true → AreDeliveredByEpoch (nat_le size (2 ^ 63)) (known_asks direction.beginning) (cuts_of options first size direction run) direction.queued direction.read
 directions_deliver_by_epoch options first size direction run small little few interleaved from =
     let d = run_delivers options first size direction small few run in
     let s = d.goes.stands in
@@ -245,7 +247,7 @@ directions_deliver_by_epoch options first size direction run small little few in
     go s a.quiet a.received.got a.places a.were a.once counts (goes_in_turn first direction small _ _ d.goes d.keeps interleaved) a.received.holds
   where
     read : (s : Stands first direction) (quiet : ℕ → Bool) (got : List ℕ) (base : ℕ) (places : List ℕ) → WereQueued direction.queued places direction.read → AreDistinct places → ((id : ℕ) → CountsFromZero s.history id) → ((id : ℕ) → SendsEpochsInTurn (known_asks direction.beginning id) direction.queued s.history id)
-        → IncomingOrdered (watch_of (nat_le size (2 ^ 63)) (known_asks direction.beginning) (cuts_of options first size direction run)) (sent_messages direction.queued s.history) quiet got base places direction.reassembly.incoming → AreDeliveredByEpoch (known_asks direction.beginning) (cuts_of options first size direction run) direction.queued direction.read
+        → IncomingOrdered (watch_of (nat_le size (2 ^ 63)) (known_asks direction.beginning) (cuts_of options first size direction run)) (sent_messages direction.queued s.history) quiet got base places direction.reassembly.incoming → AreDeliveredByEpoch (nat_le size (2 ^ 63)) (known_asks direction.beginning) (cuts_of options first size direction run) direction.queued direction.read
     read s quiet got base places were once counts turns o =
         record {
           ordered = record {
@@ -253,23 +255,23 @@ directions_deliver_by_epoch options first size direction run small little few in
             in_order = λ id. ordered_was_read (watch_of (nat_le size (2 ^ 63)) (known_asks direction.beginning) (cuts_of options first size direction run)) direction.queued s.history quiet got base places direction.reassembly.incoming id (counts id) o;
           };
           epochs = λ id cut has. front_separate direction.queued id cut.index cut.place places o.holds.places (separated id cut has).separates;
-          no_gaps = λ id cut has. before_front (known_asks direction.beginning id) direction.queued id cut.place places o.holds.places (in_order id) (separated id cut has).no_gap;
+          no_gaps = λ id cut has. before_front (nat_le size (2 ^ 63)) (known_asks direction.beginning id) direction.queued id cut.place places o.holds.places (in_order id) (separated id cut has).no_gap;
           before = λ id cut has. (separated id cut has).before;
-          complete = λ id cut has whole low free place on below one. taken_front place cut.index places o.holds.places low ((separated id cut has).all whole free place on below one);
-          no_gap = λ id. before_front (known_asks direction.beginning id) direction.queued id (length direction.queued) places o.holds.places (in_order id)
-              (sent_leaves (known_asks direction.beginning id) direction.queued s.history id (places ++ o.holds.places) s.queues.cut
-              (no_gap_where (watch_of (nat_le size (2 ^ 63)) (known_asks direction.beginning) (cuts_of options first size direction run) id) direction.queued s.history (quiet id) id (places ++ o.holds.places) (o.holds.waits id) (stream_on id direction.reassembly.incoming.streams) (counts id) (turns id) (o.order id (counts id)))
+          complete = λ id cut has whole low place on free below one. taken_front place cut.index places o.holds.places low ((separated id cut has).all whole place on free below one);
+          no_gap = λ id. before_front (nat_le size (2 ^ 63)) (known_asks direction.beginning id) direction.queued id (length direction.queued) places o.holds.places (in_order id)
+              (sent_leaves (nat_le size (2 ^ 63)) (known_asks direction.beginning id) direction.queued s.history id (places ++ o.holds.places) s.queues.cut
+              (no_gap_where (watch_of (nat_le size (2 ^ 63)) (known_asks direction.beginning) (cuts_of options first size direction run) id) direction.queued s.history (quiet id) id (places ++ o.holds.places) (o.holds.waits id) (stream_on id direction.reassembly.incoming.streams) s.queues.cut (counts id) (turns id) (o.order id (counts id)))
               (length direction.queued) (λ n f at on. at_below f.place f.message direction.queued (s.queues.cut.pieces n f at).at));
         }
       where
         in_order : (id : ℕ) → ComeInOrder direction.queued id (places ++ o.holds.places)
         in_order id = (quiet_where (watch_of (nat_le size (2 ^ 63)) (known_asks direction.beginning) (cuts_of options first size direction run) id) direction.queued s.history (quiet id) id (places ++ o.holds.places) (o.holds.waits id) (stream_on id direction.reassembly.incoming.streams) (o.order id (counts id))).in_order
 
-        separated : (id : ℕ) → AreSeparated (known_asks direction.beginning id) direction.queued id (cuts_of options first size direction run id) (places ++ o.holds.places)
+        separated : (id : ℕ) → AreSeparated (nat_le size (2 ^ 63)) (known_asks direction.beginning id) direction.queued id (cuts_of options first size direction run id) (places ++ o.holds.places)
         separated id =
             separated_where (watch_of (nat_le size (2 ^ 63)) (known_asks direction.beginning) (cuts_of options first size direction run) id) direction.queued s.history (quiet id) id (places ++ o.holds.places) (o.holds.waits id) (stream_on id direction.reassembly.incoming.streams) (o.order id (counts id))
 
     go : (s : Stands first direction) (quiet : ℕ → Bool) (got places : List ℕ) → WereQueued direction.queued places direction.read → AreDistinct places → ((id : ℕ) → CountsFromZero s.history id) → ((id : ℕ) → SendsEpochsInTurn (known_asks direction.beginning id) direction.queued s.history id)
-        → ReassemblesInOrder (watch_of (nat_le size (2 ^ 63)) (known_asks direction.beginning) (cuts_of options first size direction run)) (sent_messages direction.queued s.history) quiet first got places direction.reassembly.incoming → AreDeliveredByEpoch (known_asks direction.beginning) (cuts_of options first size direction run) direction.queued direction.read
+        → ReassemblesInOrder (watch_of (nat_le size (2 ^ 63)) (known_asks direction.beginning) (cuts_of options first size direction run)) (sent_messages direction.queued s.history) quiet first got places direction.reassembly.incoming → AreDeliveredByEpoch (nat_le size (2 ^ 63)) (known_asks direction.beginning) (cuts_of options first size direction run) direction.queued direction.read
     go s quiet got places were once counts turns (none_handled none' last empty') = read s quiet [] 0 places were once counts turns (empty' 0)
     go s quiet got places were once counts turns (some_handled base is holds) = read s quiet got base places were once counts turns holds

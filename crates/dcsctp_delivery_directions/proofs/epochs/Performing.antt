@@ -19,7 +19,7 @@ use Rattle.dcsctp_delivery_directions.proofs.directions.Standing.{Stands}
 use Rattle.dcsctp_delivery_directions.specs.order.Incoming.{IsOrderedOrReset, IncomingOrdered}
 use Rattle.dcsctp_delivery_directions.specs.order.Order.{IsBetweenResets}
 use Rattle.dcsctp_delivery_directions.specs.order.Epochs.{LeaveNoGapSent}
-use Rattle.dcsctp_delivery_directions.specs.order.Queue.{Cut, Separates, IsSeparated, AreSeparated, LeaveNoGapBefore, AreUnlimitedFrom, IsOrderedOn}
+use Rattle.dcsctp_delivery_directions.specs.order.Queue.{Cut, Separates, IsSeparated, AreSeparated, LeaveNoGapBefore, IsOrderedOn}
 use Rattle.dcsctp_delivery_directions.specs.order.Received.{ReassemblesInOrder, none_handled, some_handled}
 use Rattle.dcsctp_delivery_directions.proofs.order.Quiet.{Arrives, performing_arrives, performed_quiet}
 use Rattle.dcsctp_delivery_directions.proofs.order.Separated.{all_separate, taken_all}
@@ -32,11 +32,11 @@ use Rattle.dcsctp_delivery_directions.specs.order.Parts.{ReadsAllSent}
 use Rattle.std.proofs.lemmas.Bool.Decides.{leb_tells}
 
 -- Where nothing was sent that was queued at this place or later, none is left out before it.
-pub sent_leaves : (asks : ℕ → Bool) (queued : List Message) (history : History) (id : ℕ) (all : List ℕ) → IsLogOfPieces queued history.log → LeaveNoGapSent asks queued history id all → (bound : ℕ)
-    → ((n : ℕ) (f : Piece) → at_place n history.log ≡ Some (Some f) → f.message.stream ≡ id → f.place < bound) → LeaveNoGapBefore asks queued id bound all
-sent_leaves asks queued history id all cut whole bound below earlier later has on on' less before one free =
-    whole later has on earlier on' (free earlier (omega arith) (omega (arith, less, before)) on') less one
-    (λ n f at stream ordered from. free f.place from (below n f at stream) (record { message = f.message; at = (cut.pieces n f at).at; stream = stream; ordered = ordered }))
+pub sent_leaves : (knows : Bool) (asks : ℕ → Bool) (queued : List Message) (history : History) (id : ℕ) (all : List ℕ) → IsLogOfPieces queued history.log → LeaveNoGapSent knows asks queued history id all → (bound : ℕ)
+    → ((n : ℕ) (f : Piece) → at_place n history.log ≡ Some (Some f) → f.message.stream ≡ id → f.place < bound) → LeaveNoGapBefore knows asks queued id bound all
+sent_leaves knows asks queued history id all cut whole bound below earlier later has on on' spared less before one free =
+    whole later has on earlier on' spared less one
+    (λ unknown n f at stream ordered from. free unknown f.place from (below n f at stream) (record { message = f.message; at = (cut.pieces n f at).at; stream = stream; ordered = ordered }))
 
 -- the first ones are among all
 from_taken : (place k : ℕ) (all : List ℕ) → HasEntry place (take k all) → HasEntry place all
@@ -60,9 +60,9 @@ module _ (sized : Bool) (first : ℕ) (old : Direction) (opened : ℕ → Bool) 
 
   -- each message of its epoch was sent, and so it is read
   sent_is_read : (id : ℕ) (all : List ℕ) (place : ℕ) → (asked id).newest ≡ Some place → ((n : ℕ) (f : Piece) → at_place n its_stands.history.log ≡ Some (Some f) → f.message.stream ≡ id → f.place < place) → is_cut_whole sized old.beginning id place ≡ true
-      → AreSeparated (known_asks old.beginning id) old.queued id (cuts id) all → (sized ≡ true → ReadsAllSent its_stands.history id all) → AreUnlimitedFrom old.queued id 0 place → (p : ℕ) → IsOrderedOn old.queued id p → p < place
+      → AreSeparated sized (known_asks old.beginning id) old.queued id (cuts id) all → (sized ≡ true → ReadsAllSent its_stands.history id all) → (p : ℕ) (on : IsOrderedOn old.queued id p) → on.message.is_limited ≡ false → p < place
       → ((count : ℕ) → p < count → count < place → known_asks old.beginning id count ≡ false) → HasEntry p all
-  sent_is_read id all place newest_is sent whole separated reads free p on below one =
+  sent_is_read id all place newest_is sent whole separated reads p on free below one =
       let has_all = both_of old.beginning.has_all (old.beginning.empties id place && sized) whole in
       let empties = both_of (old.beginning.empties id place) sized has_all.1 in
       let high = ((d.goes.by_epoch interleaved id).newest place newest_is).0 in
@@ -75,7 +75,7 @@ module _ (sized : Bool) (first : ℕ) (old : Direction) (opened : ℕ → Bool) 
                   (let same : (asked id).ended ≡ place = omega (arith, up, high) in
                   let place_is : c.cut.place ≡ place = c.place_is ∙ same in
                   from_taken p c.cut.index all
-                  ((separated c.cut c.has).all (c.whole_is ∙ ap (is_cut_whole sized old.beginning id) same ∙ whole) (subst (AreUnlimitedFrom old.queued id 0) (sym place_is) free) p on (omega (arith, place_is, below))
+                  ((separated c.cut c.has).all (c.whole_is ∙ ap (is_cut_whole sized old.beginning id) same ∙ whole) p on free (omega (arith, place_is, below))
                   (λ count from to. one count from (omega (arith, to, place_is)))))
             ])
         | inr e ↦
@@ -89,8 +89,7 @@ module _ (sized : Bool) (first : ℕ) (old : Direction) (opened : ℕ → Bool) 
                     cc)
               ]
             ] in
-            let unlimited = free p (omega arith) below on in
-            let was = d.keeps.sent_each interleaved has_all.0 id place newest_is empties.0 p on.message on.at on.stream unlimited low below in
+            let was = d.keeps.sent_each interleaved has_all.0 id place newest_is empties.0 p on.message on.at on.stream free low below in
             let two : Some was.piece.message ≡ Some on.message = sym (its_stands.queues.cut.pieces was.number was.piece was.at).at ∙ ap (λ (k : ℕ). at_place k old.queued) was.is ∙ on.at in
             let text : was.piece.message ≡ on.message = cc in
             let stream_is : was.piece.message.stream ≡ id = ap (λ (m : Message). m.stream) text ∙ on.stream in
@@ -100,15 +99,13 @@ module _ (sized : Bool) (first : ℕ) (old : Direction) (opened : ℕ → Bool) 
               | inr e ↦ absurd (let past = d.keeps.past_each interleaved has_all.0 id was.number was.piece was.at stream_is e.1 in let is = was.is in omega (arith, past, is, low))
             ] in
             subst (λ (k : ℕ). HasEntry k all) was.is
-            (reads empties.1
-            (λ n f is. free f.place (omega arith) (sent n f is.at is.stream) (record { message = f.message; at = (its_stands.queues.cut.pieces n f is.at).at; stream = is.stream; ordered = is.ordered }))
-            was.number was.piece (record { at = was.at; stream = stream_is; ordered = ordered; current = current })))
+            (reads empties.1 was.number was.piece (record { at = was.at; stream = stream_is; ordered = ordered; current = current }) (ap (λ (m : Message). m.is_limited) text ∙ free)))
       ]
 
   -- It separates what was queued before from what is queued since.
   pub newest_separates : (id : ℕ) (got all : List ℕ) (place index : ℕ) → (asked id).newest ≡ Some place → HaltsBefore its_stands.history old.queues.queue id place → length all ≡ index → ((p : ℕ) → HasEntry p all → Spent its_stands.history.log got p)
-      → AreSeparated (known_asks old.beginning id) old.queued id (cuts id) all → LeaveNoGapSent (known_asks old.beginning id) old.queued its_stands.history id all → (sized ≡ true → ReadsAllSent its_stands.history id all)
-      → AreSeparated (known_asks old.beginning id) old.queued id (record { index = index; place = place; is_whole = is_cut_whole sized old.beginning id place } ∷ cuts id) all
+      → AreSeparated sized (known_asks old.beginning id) old.queued id (cuts id) all → LeaveNoGapSent sized (known_asks old.beginning id) old.queued its_stands.history id all → (sized ≡ true → ReadsAllSent its_stands.history id all)
+      → AreSeparated sized (known_asks old.beginning id) old.queued id (record { index = index; place = place; is_whole = is_cut_whole sized old.beginning id place } ∷ cuts id) all
   newest_separates id got all place index is its size spent separated no_gap reads c has =
       elim has [
         | inr t ↦ separated c t
@@ -124,13 +121,13 @@ module _ (sized : Bool) (first : ℕ) (old : Direction) (opened : ℕ → Bool) 
             let same = sent.is in
             omega (arith, low, same)
             ))) in
-            subst (λ (x : Cut). IsSeparated (known_asks old.beginning id) old.queued id x all) (sym e)
+            subst (λ (x : Cut). IsSeparated sized (known_asks old.beginning id) old.queued id x all) (sym e)
             (record {
               within = omega (arith, size);
               separates = cut;
-              no_gap = sent_leaves (known_asks old.beginning id) old.queued its_stands.history id all its_stands.queues.cut no_gap place its.sent;
+              no_gap = sent_leaves sized (known_asks old.beginning id) old.queued its_stands.history id all its_stands.queues.cut no_gap place its.sent;
               before = ((d.goes.by_epoch interleaved id).newest place is).1;
-              all = λ whole free p on below one. taken_all p index all size (sent_is_read id all place is its.sent whole separated reads free p on below one);
+              all = λ whole p on free below one. taken_all p index all size (sent_is_read id all place is its.sent whole separated reads p on free below one);
             }))
       ]
 
@@ -219,7 +216,7 @@ module _ (sized : Bool) (first : ℕ) (old : Direction) (small : first < 2 ^ 32)
           go false names o is = ordered
           go true names None is = ordered
           go true names (Some place) is =
-              let both : IsBetweenResets old.queued stands.history id all × AreSeparated (known_asks old.beginning id) old.queued id (cuts id) all × LeaveNoGapSent (known_asks old.beginning id) old.queued stands.history id all × (sized ≡ true → ReadsAllSent stands.history id all) =
+              let both : IsBetweenResets old.queued stands.history id all × AreSeparated sized (known_asks old.beginning id) old.queued id (cuts id) all × LeaveNoGapSent sized (known_asks old.beginning id) old.queued stands.history id all × (sized ≡ true → ReadsAllSent stands.history id all) =
               subst (λ (b : Bool). IsOrderedOrReset (watch_of sized (known_asks old.beginning) cuts id) b (sent_messages old.queued stands.history) id all waits stream) (named_quiet id names) ordered in
               subst (λ (b : Bool). IsOrderedOrReset (record { asks = known_asks old.beginning id; cuts = record { index = index; place = place; is_whole = is_cut_whole sized old.beginning id place } ∷ cuts id; knows_all = sized }) b (sent_messages old.queued stands.history) id all waits stream) (sym (named_quiet id names)) (
                 both.0,
@@ -265,6 +262,7 @@ module _ (sized : Bool) (first : ℕ) (old : Direction) (small : first < 2 ^ 32)
               distinct = r.distinct;
               holds = recut_reassembles r.got r.holds;
               defers = r.defers;
+              skips = record { kept = r.skips.kept; each = λ small id little knows. r.skips.each small id little knows };
             };
             silent = performed.silent;
           }

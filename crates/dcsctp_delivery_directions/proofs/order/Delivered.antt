@@ -55,6 +55,6 @@ read_is_front queued history got base places incoming read were once counts send
       no_gap = λ id. (
           let s = o.order id (counts id) in
           no_gap_front queued id places o.holds.places s.order.in_order
-          (filled_no_gap queued history id (places ++ o.holds.places) (o.holds.waits id) (stream_on id incoming.streams) (counts id) (sends id) s.order (all_filled (any_asked id) queued history id (places ++ o.holds.places) (stream_on id incoming.streams).next (unlimited id) s.by_epoch))
+          (filled_no_gap queued history id (places ++ o.holds.places) (o.holds.waits id) (stream_on id incoming.streams) (counts id) (sends id) s.order (all_filled false (any_asked id) queued history id (places ++ o.holds.places) (stream_on id incoming.streams).next (unlimited id) s.by_epoch))
           );
     }

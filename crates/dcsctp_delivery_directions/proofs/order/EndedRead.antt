@@ -1,17 +1,13 @@
 -- Where a reset ends, all that was sent on the streams that are handed out is read, if none of it has limits.
 use Rattle.std.proofs.Common.{◌≡◌, ℕ, Bool, true, false, ◌<◌, ◌≤◌, ◌^◌, List, ◌++◌, refl, sym, ◌∙◌, ap, arith, subst, inl, inr, Option, None, is_some, length}
-use Rattle.std.specs.Prelude.{Some}
+use Rattle.std.specs.Prelude.{◌⊎◌, ◌+◌, Some}
 use Rattle.dcsctp_spec.specs.types.declared.sending.UnderWay.{UnderWay}
 use Rattle.dcsctp_spec_lemmas.specs.spec.queues.Incoming.{stream_on}
-use Rattle.dcsctp_spec_lemmas.specs.spec.queues.Reassembly.{waiting_of}
-use Rattle.dcsctp_spec_lemmas.specs.spec.queues.Tracker.{has_received}
 use Rattle.dcsctp_delivery_directions.specs.sending.Places.{HasEntry, at_place}
-use Rattle.dcsctp_delivery_directions.specs.sending.Log.{Piece, sent_messages, newest_on, IsEndOrLimited}
-use Rattle.dcsctp_delivery_directions.specs.sending.Numbers.{is_handed_out, stream_named, AreFloorsAtZero}
-use Rattle.dcsctp_delivery_directions.specs.receiving.Clear.{IsOver, NoneWaits}
+use Rattle.dcsctp_delivery_directions.specs.sending.Log.{Piece, sent_messages, newest_on, IsEndOrClosed}
+use Rattle.dcsctp_delivery_directions.specs.sending.Numbers.{IsCurrent, is_handed_out, stream_named, AreFloorsAtZero}
+use Rattle.dcsctp_delivery_directions.specs.receiving.Clear.{IsOver, IsClear}
 use Rattle.dcsctp_delivery_directions.specs.receiving.Ready.{ordered_base}
-use Rattle.dcsctp_delivery_directions.specs.receiving.Tracked.{tracked_number}
-use Rattle.dcsctp_delivery_directions.proofs.receiving.Tracked.{up_to}
 use Rattle.dcsctp_delivery_directions.specs.directions.Directions.{Direction}
 use Rattle.dcsctp_delivery_directions.proofs.directions.Queued.{is_over}
 use Rattle.dcsctp_delivery_directions.proofs.directions.Receiving.{known_log, known_kinds}
@@ -19,7 +15,10 @@ use Rattle.dcsctp_delivery_directions.proofs.directions.Standing.{Stands}
 use Rattle.dcsctp_delivery_directions.specs.order.Incoming.{IsOrderedOrReset, IncomingOrdered}
 use Rattle.dcsctp_delivery_directions.specs.order.Parts.{ReadsAllSent}
 use Rattle.dcsctp_delivery_directions.specs.order.Reading.{CountsFromZero, Watch}
-use Rattle.dcsctp_delivery_directions.proofs.order.AllSent.{not_later, all_sent_are_read}
+use Rattle.dcsctp_delivery_directions.specs.sending.Naming.{IsOfPiece}
+use Rattle.dcsctp_delivery_directions.proofs.receiving.Arriving.{fits_at}
+use Rattle.dcsctp_delivery_directions.proofs.order.HandledOrPast.{handled_or_past}
+use Rattle.dcsctp_delivery_directions.proofs.order.AllSent.{all_sent_are_read}
 use Rattle.dcsctp_delivery_directions.proofs.order.Follows.{counts_from_zero}
 use Rattle.dcsctp_delivery_directions.proofs.order.Quiet.{Arrives}
 
@@ -29,7 +28,7 @@ module _ (watch : ℕ → Watch) (first : ℕ) (old : Direction) (small : first 
   counts id = counts_from_zero old.queued s.history id s.queues.cut (known_log first old small s little) (known_kinds first old small s interleaved) (at_zero id)
 
   -- nothing is under way on a stream that is handed out
-  rests_on : (id : ℕ) → is_handed_out (stream_named id old.queues.queue.streams).pause ≡ true → (f : Piece) → newest_on id s.history.log ≡ Some f → IsEndOrLimited f
+  rests_on : (id : ℕ) → is_handed_out (stream_named id old.queues.queue.streams).pause ≡ true → (f : Piece) → newest_on id s.history.log ≡ Some f → IsEndOrClosed s.history.log f
   rests_on id handed f at = s.queues.numbers.rests id (go (stream_named id old.queues.queue.streams).under_way refl) f at
     where
       go : (u : Option UnderWay) → (stream_named id old.queues.queue.streams).under_way ≡ u → (stream_named id old.queues.queue.streams).under_way ≡ None
@@ -40,26 +39,25 @@ module _ (watch : ℕ → Watch) (first : ℕ) (old : Direction) (small : first 
       → ReadsAllSent s.history id (a.places ++ o.holds.places)
   ended_are_read got same base o id handed knows = by_quiet (a.quiet id) refl
     where
-      handled : IsOver s.history first old.tracker.cumulative id → NoneWaits id (waiting_of old.reassembly.deferral) → (n : ℕ) (f : Piece) → at_place n s.history.log ≡ Some (Some f) → f.message.stream ≡ id → f.message.is_limited ≡ false → HasEntry n got
-      handled over none n f at on free =
-          let below = over.below n f at on in
+      each : a.quiet id ≡ false → IsOver s.history first old.tracker.cumulative id → IsClear id old.reassembly → (k : ℕ) (g : Piece) → g.message.stream ≡ id → g.message.is_unordered ≡ false → IsCurrent s.history g → IsOfPiece s.history.log g k
+          → (j : ℕ) (h : Piece) → at_place j s.history.log ≡ Some (Some h) → h.message.stream ≡ id → k ≤ j
+          → (HasEntry k got × (at_place k s.history.log ≡ Some (Some g))) ⊎ (g.mid + 2 ^ 32 < s.history.floors id false + (stream_on id old.reassembly.incoming.streams).next)
+      each loud over clear k g on kind current of j h at on' low =
+          let below = over.below j h at on' in
           let up = over.passed in
-          let received : has_received old.tracker (tracked_number first n) ≡ true = up_to old.tracker.cumulative (tracked_number first n) old.tracker.ranges (omega (arith, below, up)) in
-          let taken = a.received.exact (window id knows) n (record { piece = f; at = at; free = free; known = ap (λ (k : ℕ). (watch k).knows_all) on ∙ knows }) received in
-          elim (a.received.either n taken) [
-            | inl g ↦ subst (λ (l : List ℕ). HasEntry n l) (sym same) g
-            | inr l ↦ absurd (not_later s.history first id a.received.later (waiting_of old.reassembly.deferral) a.received.defers none n f l at on)
-          ]
+          let fits = (fits_at old.queued h.place h.message s.fit (s.queues.cut.pieces j h at).at).stream in
+          subst (λ (l : List ℕ). (HasEntry k l × (at_place k s.history.log ≡ Some (Some g))) ⊎ (g.mid + 2 ^ 32 < s.history.floors id false + (stream_on id old.reassembly.incoming.streams).next)) (sym same)
+          (handled_or_past watch old.queued s.history a.quiet first a.places old.tracker old.reassembly a.received id (window id knows) (omega (arith, fits, on')) knows loud (counts id) clear.none clear.kept k g on kind current of (omega (arith, below, up, low)))
 
       by_quiet : (b : Bool) → a.quiet id ≡ b → ReadsAllSent s.history id (a.places ++ o.holds.places)
       by_quiet true quiet =
           (subst (λ (b : Bool). IsOrderedOrReset (watch id) b (sent_messages old.queued s.history) id (a.places ++ o.holds.places) (o.holds.waits id) (stream_on id old.reassembly.incoming.streams)) quiet (o.order id (counts id))).3 knows
       by_quiet false loud =
           elim (is_over first old s one ((s.arrived little).cleared interleaved performed) id handed) [
-            | inl none ↦ λ unlimited n f is. absurd (none n f is.at is.stream)
-            | inr c ↦ λ unlimited.
-                all_sent_are_read (watch id) old.queued s.history s.queues.cut (known_log first old small s little) id (counts id) (rests_on id handed) got (ordered_base base) (a.places ++ o.holds.places) (o.holds.waits id)
+            | inl none ↦ λ n f is free. absurd (none n f is.at is.stream)
+            | inr c ↦ λ n f is free.
+                all_sent_are_read (watch id) knows old.queued s.history s.queues.cut (known_log first old small s little) id (counts id) (rests_on id handed) got (ordered_base base) (a.places ++ o.holds.places) (o.holds.waits id)
                 (stream_on id old.reassembly.incoming.streams) (o.holds.streams_hold id).rows.ordered
                 (subst (λ (b : Bool). IsOrderedOrReset (watch id) b (sent_messages old.queued s.history) id (a.places ++ o.holds.places) (o.holds.waits id) (stream_on id old.reassembly.incoming.streams)) loud (o.order id (counts id)))
-                (handled c.0 c.1.none) unlimited (o.parts id (counts id) unlimited loud)
+                (each loud c.0 c.1) (o.parts id (counts id) loud) n f is free
           ]

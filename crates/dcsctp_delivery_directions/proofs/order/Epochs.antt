@@ -1,11 +1,11 @@
 -- What is read of an epoch of a stream leaves none out without limits.
-use Rattle.std.proofs.Common.{◌≡◌, ℕ, Bool, true, false, ◌<◌, ◌≤◌, ◌+◌, ◌-◌, ◌^◌, List, [], ◌∷◌, ◌++◌, refl, sym, ◌∙◌, arith, subst, inl, inr}
-use Rattle.std.specs.Prelude.{◌⊎◌}
+use Rattle.std.proofs.Common.{◌≡◌, ℕ, Bool, true, false, ◌<◌, ◌≤◌, ◌+◌, ◌-◌, ◌^◌, List, [], ◌∷◌, ◌++◌, refl, sym, ◌∙◌, ap, arith, subst, inl, inr}
+use Rattle.std.specs.Prelude.{◌⊎◌, Some}
 use Rattle.std.proofs.lemmas.Bool.Decides.{eqb_tells, leb_tells}
 use Rattle.dcsctp_spec_lemmas.specs.spec.queues.Runs.{WholeModel}
 use Rattle.dcsctp_spec_lemmas.specs.spec.queues.IncomingStreams.{new_stream, next_after, due, next_due}
-use Rattle.dcsctp_delivery_directions.specs.sending.Places.{HasEntry}
-use Rattle.dcsctp_delivery_directions.specs.sending.Log.{Message, History}
+use Rattle.dcsctp_delivery_directions.specs.sending.Places.{HasEntry, at_place}
+use Rattle.dcsctp_delivery_directions.specs.sending.Log.{Message, History, IsLogOfPieces}
 use Rattle.dcsctp_delivery_directions.proofs.receiving.Distinct.{has_left, has_right, has_either}
 use Rattle.dcsctp_delivery_directions.specs.order.Queue.{IsOrderedOn}
 use Rattle.dcsctp_delivery_directions.specs.order.Rising.{Rise, FillRow, AscendFrom}
@@ -61,13 +61,13 @@ due_has history id from next number places (w ∷ waiting) up are low less =
               record { place = rest.place; has = inr rest.has; is = rest.is })
         ]
 
-module _ (asks : ℕ → Bool) (queued : List Message) (history : History) (id : ℕ) where
-  pub new_by_epoch : AreReadByEpoch asks queued history id [] (new_stream id).next
+module _ (knows : Bool) (asks : ℕ → Bool) (queued : List Message) (history : History) (id : ℕ) where
+  pub new_by_epoch : AreReadByEpoch knows asks queued history id [] (new_stream id).next
   new_by_epoch = record { filled = λ number low less. absurd (omega (arith, low, less)); since = λ later has on. absurd has }
 
   -- messages that become ready, by rising numbers
-  since_more : (next end : ℕ) (all more : List ℕ) (delivered : List WholeModel) → AreReadAs history id more delivered → Rise next end delivered → 2 ^ 32 ≤ next → AreReadByEpoch asks queued history id all next
-      → ((number : ℕ) → next ≤ number → number < end → HasNumber history id more number ⊎ IsLimitedFrom history id number) → AreReadByEpoch asks queued history id (all ++ more) end
+  since_more : (next end : ℕ) (all more : List ℕ) (delivered : List WholeModel) → AreReadAs history id more delivered → Rise next end delivered → 2 ^ 32 ≤ next → AreReadByEpoch knows asks queued history id all next
+      → ((number : ℕ) → next ≤ number → number < end → HasNumber history id more number ⊎ IsLimitedFrom knows history id number) → AreReadByEpoch knows asks queued history id (all ++ more) end
   since_more next end all more delivered are rise low o fills =
       record {
         filled = λ number some less. elim (leb_tells next number) [
@@ -90,22 +90,22 @@ module _ (asks : ℕ → Bool) (queued : List Message) (history : History) (id :
       }
 
   -- a row of them
-  pub row_by_epoch : (next end : ℕ) (all more : List ℕ) (delivered : List WholeModel) → AreReadAs history id more delivered → FillRow next end delivered → 2 ^ 32 ≤ next → AreReadByEpoch asks queued history id all next
-      → AreReadByEpoch asks queued history id (all ++ more) end
+  pub row_by_epoch : (next end : ℕ) (all more : List ℕ) (delivered : List WholeModel) → AreReadAs history id more delivered → FillRow next end delivered → 2 ^ 32 ≤ next → AreReadByEpoch knows asks queued history id all next
+      → AreReadByEpoch knows asks queued history id (all ++ more) end
   row_by_epoch next end all more delivered are row low o = since_more next end all more delivered are (row_rises next end delivered row) low o (λ number from less. inl (in_row history id next end more delivered are row number from less))
 
   -- those that are due once messages up to one with limits are skipped
   pub skip_by_epoch : (old next end from : ℕ) (all more : List ℕ) (waiting : List WholeModel) → AscendFrom from waiting → end ≡ next_due next waiting → AreReadAs history id more (due next waiting) → Rise old end (due next waiting) → 2 ^ 32 ≤ old
-      → ((number : ℕ) → old ≤ number → number < next → IsLimitedFrom history id number) → AreReadByEpoch asks queued history id all old → AreReadByEpoch asks queued history id (all ++ more) end
+      → ((number : ℕ) → old ≤ number → number < next → HasNumber history id more number ⊎ IsLimitedFrom knows history id number) → AreReadByEpoch knows asks queued history id all old → AreReadByEpoch knows asks queued history id (all ++ more) end
   skip_by_epoch old next end from all more waiting up ends are rise low limited o =
       since_more old end all more (due next waiting) are rise low o
       (λ number some less. elim (leb_tells next number) [
         | inl e ↦ inl (due_has history id from next number more waiting up are e.1 (omega (arith, less, ends)))
-        | inr e ↦ inr (limited number some e.1)
+        | inr e ↦ limited number some e.1
       ])
 
   -- messages of other streams, or unordered ones
-  pub others_by_epoch : (next : ℕ) (all more : List ℕ) → ((place : ℕ) → HasEntry place more → IsOrderedOn queued id place → ⊥) → AreReadByEpoch asks queued history id all next → AreReadByEpoch asks queued history id (all ++ more) next
+  pub others_by_epoch : (next : ℕ) (all more : List ℕ) → ((place : ℕ) → HasEntry place more → IsOrderedOn queued id place → ⊥) → AreReadByEpoch knows asks queued history id all next → AreReadByEpoch knows asks queued history id (all ++ more) next
   others_by_epoch next all more none o =
       record {
         filled = λ number low less. elim (o.filled number low less) [
@@ -122,12 +122,12 @@ module _ (asks : ℕ → Bool) (queued : List Message) (history : History) (id :
       }
 
   -- a stream whose messages are numbered from 0 again
-  pub whole_by_epoch : (all : List ℕ) → LeaveNoGapSent asks queued history id all → AreReadByEpoch asks queued history id all (new_stream id).next
+  pub whole_by_epoch : (all : List ℕ) → LeaveNoGapSent knows asks queued history id all → AreReadByEpoch knows asks queued history id all (new_stream id).next
   whole_by_epoch all whole = record { filled = λ number low less. absurd (omega (arith, low, less)); since = λ later has on. inr (whole later has on) }
 
   -- Where each epoch is sent in turn, none is left out.
-  pub epochs_leave_no_gap : (all : List ℕ) (next : ℕ) → CountsFromZero history id → SendsEpochsInTurn asks queued history id → AreReadByEpoch asks queued history id all next → LeaveNoGapSent asks queued history id all
-  epochs_leave_no_gap all next counts turns o later has on =
+  pub epochs_leave_no_gap : (all : List ℕ) (next : ℕ) → IsLogOfPieces queued history.log → CountsFromZero history id → SendsEpochsInTurn asks queued history id → AreReadByEpoch knows asks queued history id all next → LeaveNoGapSent knows asks queued history id all
+  epochs_leave_no_gap all next cut counts turns o later has on =
       elim (o.since later has on) [
         | inr whole ↦ whole
         | inl r ↦ λ earlier on' free less one unlimited. (
@@ -138,12 +138,7 @@ module _ (asks : ℕ → Bool) (queued : List Message) (history : History) (id :
               | inl found ↦
                   (let same : found.is.mid ≡ mid = (let counted = found.is.counted in omega (arith, counted, from)) in
                   subst (λ (k : ℕ). HasEntry k all) (one_place history id counts found.place earlier found.is.mid mid found.is.sent sent same) found.has)
-              | inr l ↦
-                  absurd
-                  (let up = l.from in
-                  let above : mid ≤ l.piece.mid = omega (arith, up, from) in
-                  let no = unlimited l.offset l.piece l.at l.stream l.ordered (not_before earlier mid l.piece.mid sent l.piece.place (record { offset = l.offset; piece = l.piece; at = l.at; is = refl; stream = l.stream; ordered = l.ordered; under = refl }) above) in
-                  let clash : true ≡ false = sym l.limited ∙ no in cc)
+              | inr l ↦ absurd (by_known knows refl earlier on' free mid sent from unlimited l)
             ]
             )
       ]
@@ -156,8 +151,26 @@ module _ (asks : ℕ → Bool) (queued : List Message) (history : History) (id :
             | inr e ↦ absurd (let down = lower queued history id counts.follows (one_place history id counts) q p n e.1 two m one in omega (arith, down, up))
           ]
 
+      -- its message would have limits
+      by_known : (b : Bool) → knows ≡ b → (earlier : ℕ) (on' : IsOrderedOn queued id earlier) → on'.message.is_limited ≡ false → (mid : ℕ) → IsSentAs history id earlier mid → history.floors id false ≤ mid
+          → (knows ≡ false → AreSentUnlimited history id earlier) → IsLimitedFrom knows history id (2 ^ 32 + (mid - history.floors id false)) → ⊥
+      by_known true known earlier on' free mid sent from unlimited l =
+          let only = l.only known in
+          let same : l.piece.mid ≡ mid = omega (arith, only, from) in
+          let place : l.piece.place ≡ earlier = one_place history id counts l.piece.place earlier l.piece.mid mid (record { offset = l.offset; piece = l.piece; at = l.at; is = refl; stream = l.stream; ordered = l.ordered; under = refl }) sent same in
+          let two : Some l.piece.message ≡ Some on'.message = sym (cut.pieces l.offset l.piece l.at).at ∙ ap (λ (k : ℕ). at_place k queued) place ∙ on'.at in
+          let one : l.piece.message ≡ on'.message = cc in
+          let clash : true ≡ false = sym l.limited ∙ ap (λ (m : Message). m.is_limited) one ∙ free in
+          cc
+      by_known false unknown earlier on' free mid sent from unlimited l =
+          let up = l.from in
+          let above : mid ≤ l.piece.mid = omega (arith, up, from) in
+          let no = unlimited unknown l.offset l.piece l.at l.stream l.ordered (not_before earlier mid l.piece.mid sent l.piece.place (record { offset = l.offset; piece = l.piece; at = l.at; is = refl; stream = l.stream; ordered = l.ordered; under = refl }) above) in
+          let clash : true ≡ false = sym l.limited ∙ no in
+          cc
+
   -- Where none that was sent has limits, all numbers are there.
-  pub all_filled : (all : List ℕ) (next : ℕ) → AreSentUnlimited history id 0 → AreReadByEpoch asks queued history id all next → AreFilled history id all next
+  pub all_filled : (all : List ℕ) (next : ℕ) → AreSentUnlimited history id 0 → AreReadByEpoch knows asks queued history id all next → AreFilled history id all next
   all_filled all next unlimited o number low less =
       elim (o.filled number low less) [
         | inl found ↦ found

@@ -122,7 +122,7 @@ module _ (first : ℕ) (old : Direction) (small : first < 2 ^ 32) (unasked : old
   idle_on _ (receives_interleaved emission chunk theirs new was holds some same same' does) calm = (stays_idle (i_data_arrival chunk) theirs new does (idle_then theirs new same')).0
   idle_on _ (forwards_interleaved emission tsn streams theirs new was holds same same' does) calm = forward_stays_idle tsn (skipped_messages streams) theirs new does (idle_then theirs new same')
   idle_on _ (tracks new cumulative ranges) calm = idle
-  idle_on _ (defers last_tsn streams some) calm = absurd (none_has old.asking.requests streams some unasked)
+  idle_on _ (defers last_tsn streams some) calm = absurd (none_has old.asking.requests streams some.asked unasked)
   idle_on _ (performs newest earlier new asks unknown reached own leaves) calm = absurd calm
   idle_on _ (resets streams new unmixed some leaves) calm = absurd calm
   idle_on _ (performs_earlier newest earlier new asks unknown reached own leaves) calm = absurd calm
@@ -189,7 +189,7 @@ module _ (first : ℕ) (old : Direction) (small : first < 2 ^ 32) (unasked : old
         skips_arrive a theirs new same same' tsn (skipped_messages streams) is.passed (none_interleaved is.passed.passed streams is.entries is.is is.names) does
     arrives_on _ (tracks new cumulative ranges) calm a =
         record { places = a.places; were = a.were; once = a.once; received = tracked_few old.queued s.history first a.places old.tracker new old.reassembly.incoming cumulative ranges a.received }
-    arrives_on _ (defers last_tsn streams some) calm a = absurd (none_has old.asking.requests streams some unasked)
+    arrives_on _ (defers last_tsn streams some) calm a = absurd (none_has old.asking.requests streams some.asked unasked)
     arrives_on _ (performs newest earlier new asks unknown reached own leaves) calm a = absurd calm
     arrives_on _ (resets streams new unmixed some leaves) calm a = absurd calm
     arrives_on _ (performs_earlier newest earlier new asks unknown reached own leaves) calm a = absurd calm

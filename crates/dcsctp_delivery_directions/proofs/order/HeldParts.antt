@@ -19,7 +19,7 @@ use Rattle.dcsctp_delivery_directions.proofs.receiving.Reading.{tells_as}
 use Rattle.dcsctp_delivery_directions.proofs.receiving.SpentRows.{of_message}
 use Rattle.dcsctp_delivery_directions.specs.order.Rising.{Rise, DeliversRow, ready_with_part}
 use Rattle.dcsctp_delivery_directions.specs.order.Runs.{place_after, LieApart, IsHeldForMessage, LeavesPartsHeld}
-use Rattle.dcsctp_delivery_directions.specs.order.Parts.{AreUnlimitedSince, ArePartsHeld, HoldsParts, HoldsPartsOf}
+use Rattle.dcsctp_delivery_directions.specs.order.Parts.{ArePartsHeld, HoldsParts, HoldsPartsOf}
 use Rattle.dcsctp_delivery_directions.specs.order.Reading.{CountsFromZero, IsSince}
 use Rattle.dcsctp_delivery_directions.proofs.order.Held.{parts_leave_held}
 use Rattle.dcsctp_delivery_directions.proofs.order.Runs.{parts_lie_apart}
@@ -210,27 +210,22 @@ parts_none history got base id stream rows none =
 -- the floor of the stream stays
 pub parts_floors : (history : History) (floors : ℕ → Bool → ℕ) (got : List ℕ) (id : ℕ) (stream : StreamModel) → ((b : Bool) → floors id b ≡ history.floors id b) → HoldsPartsOf history false got id stream
     → HoldsPartsOf (record history { floors = floors }) false got id stream
-parts_floors history floors got id stream same p unlimited loud =
-    let before = p (λ n f is. unlimited n f (record { at = is.at; stream = is.stream; ordered = is.ordered; current = now n f is })) refl in
+parts_floors history floors got id stream same p loud =
+    let before = p refl in
     let low = same false in
     record {
       apart = before.apart;
       held = λ n f is has number counted up. before.held n f (record { at = is.at; stream = is.stream; ordered = is.ordered; current = was n f is }) has number (omega (arith, counted, low)) up;
     }
   where
-    now : (n : ℕ) (f : Piece) → IsSince history id n f → floors f.message.stream f.message.is_unordered ≤ f.mid
-    now n f is =
-        subst (λ (k : ℕ). k ≤ f.mid) (ap (λ (k : ℕ). history.floors k f.message.is_unordered) is.stream ∙ sym (same f.message.is_unordered) ∙ ap (λ (k : ℕ). floors k f.message.is_unordered) (sym is.stream)) is.current
-
     was : (n : ℕ) (f : Piece) → IsSince (record history { floors = floors }) id n f → history.floors f.message.stream f.message.is_unordered ≤ f.mid
     was n f is =
         subst (λ (k : ℕ). k ≤ f.mid) (ap (λ (k : ℕ). floors k f.message.is_unordered) is.stream ∙ same f.message.is_unordered ∙ ap (λ (k : ℕ). history.floors k f.message.is_unordered) (sym is.stream)) is.current
 
 -- more is sent
 pub parts_grown : (history later : History) (got : List ℕ) (id : ℕ) (stream : StreamModel) → ((n : ℕ) (slot : Slot) → at_place n history.log ≡ Some slot → at_place n later.log ≡ Some slot) → later.floors ≡ history.floors
-    → ((n : ℕ) → HasEntry n got → n < length history.log) → AreUnlimitedSince later id → (AreUnlimitedSince history id → HoldsParts history got id stream) → HoldsParts later got id stream
-parts_grown history later got id stream stays floors within unlimited p =
-    let before = p (λ n f is. unlimited n f (record { at = stays n (Some f) is.at; stream = is.stream; ordered = is.ordered; current = subst (λ (k : ℕ → Bool → ℕ). k f.message.stream f.message.is_unordered ≤ f.mid) (sym floors) is.current })) in
+    → ((n : ℕ) → HasEntry n got → n < length history.log) → HoldsParts history got id stream → HoldsParts later got id stream
+parts_grown history later got id stream stays floors within before =
     let same : later.floors id false ≡ history.floors id false = ap (λ (k : ℕ → Bool → ℕ). k id false) floors in
     record {
       apart = before.apart;

@@ -7,7 +7,7 @@ use Rattle.dcsctp_spec_lemmas.specs.spec.queues.IncomingStreams.{StreamModel, ne
 use Rattle.dcsctp_spec_lemmas.specs.spec.queues.Incoming.{IncomingModel, nothing, stream_on, is_named, ResetsStreams}
 use Rattle.dcsctp_spec_lemmas.specs.spec.queues.Reassembly.{names_stream}
 use Rattle.dcsctp_delivery_directions.specs.sending.Places.{HasEntry, at_place}
-use Rattle.dcsctp_delivery_directions.specs.sending.Log.{Message, History, sent_messages}
+use Rattle.dcsctp_delivery_directions.specs.sending.Log.{IsLogOfPieces, Message, History, sent_messages}
 use Rattle.dcsctp_delivery_directions.proofs.sending.Extended.{at_more}
 use Rattle.dcsctp_delivery_directions.specs.receiving.Rows.{AreRows}
 use Rattle.dcsctp_delivery_directions.specs.receiving.Ready.{IsOfStream, unordered_base, AreDistinct, WereQueued, held_messages}
@@ -41,11 +41,11 @@ beginning_in_order asks queued history quiet base =
       };
       order = λ id counts. first id (quiet id);
       within = λ n h. absurd h;
-      parts = λ id counts unlimited loud. parts_anew history [] id (λ n f is h. absurd h);
+      parts = λ id counts loud. parts_anew history [] id (λ n f is h. absurd h);
     }
   where
     first : (id : ℕ) (b : Bool) → IsOrderedOrReset (uncut false asks id) b (sent_messages queued history) id [] [] (new_stream id)
-    first id false = record { order = new_in_order queued history id; reach = record { from = omega arith; up_to = omega arith }; by_epoch = new_by_epoch (asks id) queued history id; separated = λ cut has. absurd has; since = λ cut has. absurd has }
+    first id false = record { order = new_in_order queued history id; reach = record { from = omega arith; up_to = omega arith }; by_epoch = new_by_epoch false (asks id) queued history id; separated = λ cut has. absurd has; since = λ cut has. absurd has }
     first id true = (record { in_order = tt; sent = λ place has on. absurd has }, (λ cut has. absurd has), (λ later has on. absurd has), (λ knows. absurd (cc)))
 
 -- ---- streams that are reset
@@ -54,29 +54,29 @@ pub quiet_where : (watch : Watch) (queued : List Message) (history : History) (b
 quiet_where watch queued history false id all waits stream o = come_between queued history id all waits stream o.order
 quiet_where watch queued history true id all waits stream between = between.0
 
-pub separated_where : (watch : Watch) (queued : List Message) (history : History) (b : Bool) (id : ℕ) (all waits : List ℕ) (stream : StreamModel) → IsOrderedOrReset watch b (sent_messages queued history) id all waits stream → AreSeparated watch.asks queued id watch.cuts all
+pub separated_where : (watch : Watch) (queued : List Message) (history : History) (b : Bool) (id : ℕ) (all waits : List ℕ) (stream : StreamModel) → IsOrderedOrReset watch b (sent_messages queued history) id all waits stream → AreSeparated watch.knows_all watch.asks queued id watch.cuts all
 separated_where watch queued history false id all waits stream o = o.separated
 separated_where watch queued history true id all waits stream between = between.1
 
 -- Where each epoch is sent in turn, none is left out of one.
-pub no_gap_where : (watch : Watch) (queued : List Message) (history : History) (b : Bool) (id : ℕ) (all waits : List ℕ) (stream : StreamModel) → CountsFromZero history id → SendsEpochsInTurn watch.asks queued history id
-    → IsOrderedOrReset watch b (sent_messages queued history) id all waits stream → LeaveNoGapSent watch.asks queued history id all
-no_gap_where watch queued history false id all waits stream counts turns o = epochs_leave_no_gap watch.asks queued history id all stream.next counts turns o.by_epoch
-no_gap_where watch queued history true id all waits stream counts turns between = between.2
+pub no_gap_where : (watch : Watch) (queued : List Message) (history : History) (b : Bool) (id : ℕ) (all waits : List ℕ) (stream : StreamModel) → IsLogOfPieces queued history.log → CountsFromZero history id → SendsEpochsInTurn watch.asks queued history id
+    → IsOrderedOrReset watch b (sent_messages queued history) id all waits stream → LeaveNoGapSent watch.knows_all watch.asks queued history id all
+no_gap_where watch queued history false id all waits stream cut counts turns o = epochs_leave_no_gap watch.knows_all watch.asks queued history id all stream.next cut counts turns o.by_epoch
+no_gap_where watch queued history true id all waits stream cut counts turns between = between.2
 
 module _ (watch : ℕ → Watch) (queued : List Message) (history : History) (quiet : ℕ → Bool) (got : List ℕ) (base : ℕ) (read : List ℕ) where
-  renewed : ((id : ℕ) → SendsEpochsInTurn (watch id).asks queued history id) → (named : ℕ → Bool) (streams later : ℕ → StreamModel) (unordered others : List RunModel) (ready : List MessageContent) → ((id : ℕ) → later id ≡ (if named id then new_stream id else streams id))
+  renewed : IsLogOfPieces queued history.log → ((id : ℕ) → SendsEpochsInTurn (watch id).asks queued history id) → (named : ℕ → Bool) (streams later : ℕ → StreamModel) (unordered others : List RunModel) (ready : List MessageContent) → ((id : ℕ) → later id ≡ (if named id then new_stream id else streams id))
       → AreRows history.log got (unordered_base base) IsOfStream others → (o : HoldsOrdered watch (sent_messages queued history) quiet got base read (held_messages streams unordered ready))
       → ((id : ℕ) → named id ≡ true → quiet id ≡ false → CountsFromZero history id → (watch id).knows_all ≡ true → ReadsAllSent history id (read ++ o.holds.places))
       → HoldsOrdered watch (sent_messages queued history) (λ id. quiet id || named id) got base read (held_messages later others ready)
   unfolding holds_renewed
-  renewed turns named streams later unordered others ready are rows o all =
+  renewed cut turns named streams later unordered others ready are rows o all =
       record {
         holds = holds_renewed queued history got base read named streams later unordered others ready are rows o.holds;
         order = λ id counts. subst (λ (s : StreamModel). IsOrderedOrReset (watch id) (quiet id || named id) (sent_messages queued history) id (read ++ o.holds.places) (if named id then [] else o.holds.waits id) s) (sym (are id))
             (left_order id counts (quiet id) (named id) refl refl (o.order id counts));
         within = o.within;
-        parts = λ id counts unlimited loud. subst (λ (s : StreamModel). HoldsParts history got id s) (sym (are id)) (left_parts id (quiet id) (named id) (o.parts id counts unlimited) loud);
+        parts = λ id counts loud. subst (λ (s : StreamModel). HoldsParts history got id s) (sym (are id)) (left_parts id (quiet id) (named id) (o.parts id counts) loud);
       }
     where
       left_parts : (id : ℕ) (was b : Bool) → (was ≡ false → HoldsParts history got id (streams id)) → (was || b) ≡ false → HoldsParts history got id (if b then new_stream id else streams id)
@@ -91,19 +91,19 @@ module _ (watch : ℕ → Watch) (queued : List Message) (history : History) (qu
       left_order id counts false true is its ordered = (
         quiet_where (watch id) queued history false id (read ++ o.holds.places) (o.holds.waits id) (streams id) ordered,
         ordered.separated,
-        epochs_leave_no_gap (watch id).asks queued history id (read ++ o.holds.places) (streams id).next counts (turns id) ordered.by_epoch,
+        epochs_leave_no_gap (watch id).knows_all (watch id).asks queued history id (read ++ o.holds.places) (streams id).next cut counts (turns id) ordered.by_epoch,
         λ knows. all id its is counts knows,
       )
       left_order id counts false false is its ordered = ordered
 
-  pub resetting_in_order : (streams : List ℕ) (old new : IncomingModel) → ((id : ℕ) → SendsEpochsInTurn (watch id).asks queued history id) → (o : IncomingOrdered watch (sent_messages queued history) quiet got base read old) → NamedAreRead watch history quiet streams (read ++ o.holds.places) → ResetsStreams streams old new → IncomingOrdered watch (sent_messages queued history) (λ id. quiet id || names_stream streams id) got base read new
-  resetting_in_order [] old new turns o all resets =
+  pub resetting_in_order : (streams : List ℕ) (old new : IncomingModel) → IsLogOfPieces queued history.log → ((id : ℕ) → SendsEpochsInTurn (watch id).asks queued history id) → (o : IncomingOrdered watch (sent_messages queued history) quiet got base read old) → NamedAreRead watch history quiet streams (read ++ o.holds.places) → ResetsStreams streams old new → IncomingOrdered watch (sent_messages queued history) (λ id. quiet id || names_stream streams id) got base read new
+  resetting_in_order [] old new cut turns o all resets =
       subst (λ (l : List MessageContent). HoldsOrdered watch (sent_messages queued history) (λ id. quiet id || true) got base read (held_messages (λ id. stream_on id new.streams) new.unordered l)) (sym resets.kept.ready)
-      (renewed turns (λ id. true) (λ id. stream_on id old.streams) (λ id. stream_on id new.streams) old.unordered new.unordered old.ready resets.streams
+      (renewed cut turns (λ id. true) (λ id. stream_on id old.streams) (λ id. stream_on id new.streams) old.unordered new.unordered old.ready resets.streams
       (subst (λ (l : List RunModel). AreRows history.log got (unordered_base base) IsOfStream l) (sym resets.unordered) tt) o all)
-  resetting_in_order (reset ∷ others) old new turns o all resets =
+  resetting_in_order (reset ∷ others) old new cut turns o all resets =
       subst (λ (l : List MessageContent). HoldsOrdered watch (sent_messages queued history) (λ id. quiet id || is_named (reset ∷ others) id) got base read (held_messages (λ id. stream_on id new.streams) new.unordered l)) (sym resets.kept.ready)
-      (renewed turns (is_named (reset ∷ others)) (λ id. stream_on id old.streams) (λ id. stream_on id new.streams) old.unordered new.unordered old.ready resets.streams
+      (renewed cut turns (is_named (reset ∷ others)) (λ id. stream_on id old.streams) (λ id. stream_on id new.streams) old.unordered new.unordered old.ready resets.streams
       (subst (λ (l : List RunModel). AreRows history.log got (unordered_base base) IsOfStream l) (sym resets.unordered) (rows_filter queued history got base read (unordered_base base) IsOfStream (λ run. not (is_named (reset ∷ others) run.number)) old.unordered o.holds.rows)) o all)
 
   -- ---- what the user reads
@@ -225,25 +225,25 @@ module _ (queued more : List Message) (history later : History) (id : ℕ) (with
   sent_unlimited_before : (from : ℕ) → AreSentUnlimited later id from → AreSentUnlimited history id from
   sent_unlimited_before from are n f at = are n f (within.stays n (Some f) at)
 
-  pub whole_more : (asks : ℕ → Bool) (places : List ℕ) (contents : List MessageContent) → WereQueued queued places contents → (place : ℕ) → HasEntry place places → IsOrderedOn (more ++ queued) id place
-      → LeavesNoGapTo asks queued history id places place → LeavesNoGapTo asks (more ++ queued) later id places place
-  whole_more asks places contents were place has on whole earlier on' free less one unlimited =
+  pub whole_more : (knows : Bool) (asks : ℕ → Bool) (places : List ℕ) (contents : List MessageContent) → WereQueued queued places contents → (place : ℕ) → HasEntry place places → IsOrderedOn (more ++ queued) id place
+      → LeavesNoGapTo knows asks queued history id places place → LeavesNoGapTo knows asks (more ++ queued) later id places place
+  whole_more knows asks places contents were place has on whole earlier on' free less one unlimited =
       let was = queued_so places contents were place has on in
-      whole earlier (ordered_before queued more id earlier place less (record { message = was.message; at = was.at; stream = was.stream }) on') free less one (sent_unlimited_before earlier unlimited)
+      whole earlier (ordered_before queued more id earlier place less (record { message = was.message; at = was.at; stream = was.stream }) on') free less one (λ unknown. sent_unlimited_before earlier (unlimited unknown))
 
   read_so : (place number : ℕ) → IsReadAs history id place number → IsReadAs later id place number
   read_so place number is = record { mid = is.mid; sent = sent_more place is.mid is.sent; counted = (let counted = is.counted in omega (arith, counted, same_floor)) }
 
-  pub by_epoch_more : (asks : ℕ → Bool) (next : ℕ) (places : List ℕ) (contents : List MessageContent) → WereQueued queued places contents → AreReadByEpoch asks queued history id places next → AreReadByEpoch asks (more ++ queued) later id places next
-  by_epoch_more asks next places contents were o =
+  pub by_epoch_more : (knows : Bool) (asks : ℕ → Bool) (next : ℕ) (places : List ℕ) (contents : List MessageContent) → WereQueued queued places contents → AreReadByEpoch knows asks queued history id places next → AreReadByEpoch knows asks (more ++ queued) later id places next
+  by_epoch_more knows asks next places contents were o =
       record {
         filled = λ number low less. elim (o.filled number low less) [
           | inl found ↦ inl (record { place = found.place; has = found.has; is = read_so found.place number found.is })
-          | inr l ↦ inr (record { offset = l.offset; piece = l.piece; at = within.stays l.offset (Some l.piece) l.at; stream = l.stream; ordered = l.ordered; limited = l.limited; from = (let from = l.from in omega (arith, from, same_floor)) })
+          | inr l ↦ inr (record { offset = l.offset; piece = l.piece; at = within.stays l.offset (Some l.piece) l.at; stream = l.stream; ordered = l.ordered; limited = l.limited; from = (let from = l.from in omega (arith, from, same_floor)); only = λ known. (let only = l.only known in omega (arith, only, same_floor)) })
         ];
         since = λ place has on. elim (o.since place has (queued_so places contents were place has on)) [
           | inl r ↦ inl (record { mid = r.mid; sent = sent_more place r.mid r.sent; from = (let from = r.from in omega (arith, from, same_floor)); below = (let below = r.below in omega (arith, below, same_floor)) })
-          | inr whole ↦ inr (whole_more asks places contents were place has on whole)
+          | inr whole ↦ inr (whole_more knows asks places contents were place has on whole)
         ];
       }
 
@@ -263,8 +263,8 @@ growing_in_order watch queued more history later false id all waits contents str
         ahead = o.order.ahead;
       };
       reach = o.reach;
-      by_epoch = by_epoch_more queued more history later id within watch.asks stream.next all contents were o.by_epoch;
-      separated = separated_queued watch.asks queued more id watch.cuts all (message_so queued more history later id within all contents were) o.separated;
+      by_epoch = by_epoch_more queued more history later id within watch.knows_all watch.asks stream.next all contents were o.by_epoch;
+      separated = separated_queued watch.knows_all watch.asks queued more id watch.cuts all (message_so queued more history later id within all contents were) o.separated;
       since = fresh refl o.since;
     }
 growing_in_order watch queued more history later true id all waits contents stream within fresh silent were counts ordered =
@@ -274,19 +274,13 @@ growing_in_order watch queued more history later true id all waits contents stre
         in_order = in_order_more queued more history later id within all contents were o.in_order;
         sent = λ place has on. (let (mid, sent) = o.sent place has (queued_so queued more history later id within all contents were place has on) in (mid, sent_more queued more history later id within place mid sent));
       },
-      separated_queued watch.asks queued more id watch.cuts all (message_so queued more history later id within all contents were) both.1,
-      λ after has on. whole_more queued more history later id within watch.asks all contents were after has on (both.2 after has (queued_so queued more history later id within all contents were after has on)),
-      λ knows unlimited n f is. both.3 knows
-          (λ m g is'. unlimited m g (record {
-            at = within.stays m (Some g) is'.at;
-            stream = is'.stream;
-            ordered = is'.ordered;
-            current = subst (λ (k : ℕ → Bool → ℕ). k g.message.stream g.message.is_unordered ≤ g.mid) (sym within.floors) is'.current;
-          })) n f
+      separated_queued watch.knows_all watch.asks queued more id watch.cuts all (message_so queued more history later id within all contents were) both.1,
+      λ after has on. whole_more queued more history later id within watch.knows_all watch.asks all contents were after has on (both.2 after has (queued_so queued more history later id within all contents were after has on)),
+      λ knows n f is free. both.3 knows n f
           (record {
             at = silent refl n f is.at is.stream;
             stream = is.stream;
             ordered = is.ordered;
             current = subst (λ (k : ℕ → Bool → ℕ). k f.message.stream f.message.is_unordered ≤ f.mid) within.floors is.current;
-          }),
+          }) free,
     )

@@ -60,7 +60,7 @@ alike_ordered watch queued history id all waits old new next waiting o =
         ahead = subst (λ (k : ℕ). AscendFrom (k + 1) new.waiting) (sym next) (subst (λ (l : List WholeModel). AscendFrom (old.next + 1) l) (sym waiting) o.order.ahead);
       };
       reach = record { from = (let low = o.reach.from in omega (arith, low, next)); up_to = (let high = o.reach.up_to in omega (arith, high, next)) };
-      by_epoch = subst (λ (k : ℕ). AreReadByEpoch watch.asks queued history id all k) (sym next) o.by_epoch;
+      by_epoch = subst (λ (k : ℕ). AreReadByEpoch watch.knows_all watch.asks queued history id all k) (sym next) o.by_epoch;
       separated = o.separated;
       since = o.since;
     }
@@ -72,15 +72,15 @@ on_stream queued id place on = record { message = on.message; at = on.at; stream
 -- messages of other streams
 pub others_where : (watch : Watch) (queued : List Message) (history : History) (quiet : Bool) (id : ℕ) (all waits more : List ℕ) (stream : StreamModel) → ((place : ℕ) → HasEntry place more → IsMessageOn queued id place → ⊥)
     → IsOrderedOrReset watch quiet (sent_messages queued history) id all waits stream → IsOrderedOrReset watch quiet (sent_messages queued history) id (all ++ more) waits stream
-others_where watch queued history false id all waits more stream none o = record { order = others_stay queued history id all waits more stream (λ place has on. none place has (on_stream queued id place on)) o.order; reach = o.reach; by_epoch = others_by_epoch watch.asks queued history id stream.next all more (λ place has on. none place has (on_stream queued id place on)) o.by_epoch; separated = separated_others queued id watch.asks watch.cuts all more none o.separated; since = o.since }
+others_where watch queued history false id all waits more stream none o = record { order = others_stay queued history id all waits more stream (λ place has on. none place has (on_stream queued id place on)) o.order; reach = o.reach; by_epoch = others_by_epoch watch.knows_all watch.asks queued history id stream.next all more (λ place has on. none place has (on_stream queued id place on)) o.by_epoch; separated = separated_others queued id watch.knows_all watch.asks watch.cuts all more none o.separated; since = o.since }
 others_where watch queued history true id all waits more stream none between = (
   others_between queued history id all more (λ place has on. none place has (on_stream queued id place on)) between.0,
-  separated_others queued id watch.asks watch.cuts all more none between.1,
+  separated_others queued id watch.knows_all watch.asks watch.cuts all more none between.1,
   λ later has on earlier on' free less one unlimited. elim (has_either later all more has) [
     | inl old ↦ has_left earlier all more (between.2 later old on earlier on' free less one unlimited)
     | inr new ↦ absurd (none later new (on_stream queued id later on))
   ],
-  λ knows unlimited n f is. has_left f.place all more (between.3 knows unlimited n f is),
+  λ knows n f is free. has_left f.place all more (between.3 knows n f is free),
 )
 
 -- a place on the stream
@@ -210,9 +210,9 @@ module _ (watch : Watch) (queued : List Message) (history : History) (got : List
                 order = order_then queued history id all waits (p ∷ split.front) split.back old new before after (whole ∷ due (next_after old.next whole) old.waiting) counts.follows (ordered counts).order (rises counts).rising
                     (subst (λ (k : ℕ). IsReadAs history id p k) (sym number) (reads counts), halves.0) (subst (λ (l : List WholeModel). AreReadAs history id split.back l) (sym left) halves.1);
                 reach = reach counts;
-                by_epoch = row_by_epoch watch.asks queued history id old.next new.next all (p ∷ split.front) (whole ∷ due (next_after old.next whole) old.waiting)
+                by_epoch = row_by_epoch watch.knows_all watch.asks queued history id old.next new.next all (p ∷ split.front) (whole ∷ due (next_after old.next whole) old.waiting)
                     (subst (λ (k : ℕ). IsReadAs history id p k) (sym number) (reads counts), halves.0) (rises counts).row (ordered counts).reach.from (ordered counts).by_epoch;
-                separated = separated_more queued id watch.asks watch.cuts all (p ∷ split.front)
+                separated = separated_more queued id watch.knows_all watch.asks watch.cuts all (p ∷ split.front)
                     (read_since history id watch.cuts (ordered counts).since old.next new.next (p ∷ split.front) (whole ∷ due (next_after old.next whole) old.waiting) (ordered counts).reach.from
                     (subst (λ (k : ℕ). IsReadAs history id p k) (sym number) (reads counts), halves.0) (rises counts).rising.rise) (ordered counts).separated;
                 since = (ordered counts).since;
@@ -232,8 +232,8 @@ module _ (watch : Watch) (queued : List Message) (history : History) (got : List
               (subst (λ (l : List WholeModel). AreReadAs history id (take among.at waits ++ p ∷ drop among.at waits) l) (sym among.waiting)
               (read_among history id p among.at whole waits old.waiting (subst (λ (k : ℕ). IsReadAs history id p k) (sym number) (reads counts)) (ordered counts).order.waiting));
           reach = reach counts;
-          by_epoch = row_by_epoch watch.asks queued history id old.next new.next all [] [] tt (rises counts).row (ordered counts).reach.from (ordered counts).by_epoch;
-          separated = subst (λ (l : List ℕ). AreSeparated watch.asks queued id watch.cuts l) (sym (append-nil all)) (ordered counts).separated;
+          by_epoch = row_by_epoch watch.knows_all watch.asks queued history id old.next new.next all [] [] tt (rises counts).row (ordered counts).reach.from (ordered counts).by_epoch;
+          separated = subst (λ (l : List ℕ). AreSeparated watch.knows_all watch.asks queued id watch.cuts l) (sym (append-nil all)) (ordered counts).separated;
           since = (ordered counts).since;
         })
 
@@ -245,8 +245,8 @@ module _ (watch : Watch) (queued : List Message) (history : History) (got : List
           order = order_then queued history id all waits [] waits old new before after [] counts.follows (ordered counts).order (rises counts).rising tt
               (subst (λ (s : StreamModel). AreReadAs history id waits s.waiting) (sym does.0) (ordered counts).order.waiting);
           reach = reach counts;
-          by_epoch = row_by_epoch watch.asks queued history id old.next new.next all [] [] tt (rises counts).row (ordered counts).reach.from (ordered counts).by_epoch;
-          separated = subst (λ (l : List ℕ). AreSeparated watch.asks queued id watch.cuts l) (sym (append-nil all)) (ordered counts).separated;
+          by_epoch = row_by_epoch watch.knows_all watch.asks queued history id old.next new.next all [] [] tt (rises counts).row (ordered counts).reach.from (ordered counts).by_epoch;
+          separated = subst (λ (l : List ℕ). AreSeparated watch.knows_all watch.asks queued id watch.cuts l) (sym (append-nil all)) (ordered counts).separated;
           since = (ordered counts).since;
         })
     by_outcome part_kept does of makes rises reach =
@@ -255,8 +255,8 @@ module _ (watch : Watch) (queued : List Message) (history : History) (got : List
           order = order_then queued history id all waits [] waits old new before after [] counts.follows (ordered counts).order (rises counts).rising tt
               (subst (λ (l : List WholeModel). AreReadAs history id waits l) (sym does.1) (ordered counts).order.waiting);
           reach = reach counts;
-          by_epoch = row_by_epoch watch.asks queued history id old.next new.next all [] [] tt (rises counts).row (ordered counts).reach.from (ordered counts).by_epoch;
-          separated = subst (λ (l : List ℕ). AreSeparated watch.asks queued id watch.cuts l) (sym (append-nil all)) (ordered counts).separated;
+          by_epoch = row_by_epoch watch.knows_all watch.asks queued history id old.next new.next all [] [] tt (rises counts).row (ordered counts).reach.from (ordered counts).by_epoch;
+          separated = subst (λ (l : List ℕ). AreSeparated watch.knows_all watch.asks queued id watch.cuts l) (sym (append-nil all)) (ordered counts).separated;
           since = (ordered counts).since;
         })
     by_outcome (message_whole whole) does of makes rises reach = whole_left whole of (whole.number == old.next) does.ready does.waiting makes rises reach
@@ -292,8 +292,8 @@ module _ (watch : Watch) (queued : List Message) (history : History) (got : List
           (λ counts. record {
             order = others_stay queued history id all waits (p ∷ []) new (not_ordered counts) (ordered counts).order;
             reach = (ordered counts).reach;
-            by_epoch = others_by_epoch watch.asks queued history id new.next all (p ∷ []) (not_ordered counts) (ordered counts).by_epoch;
-            separated = separated_more queued id watch.asks watch.cuts all (p ∷ [])
+            by_epoch = others_by_epoch watch.knows_all watch.asks queued history id new.next all (p ∷ []) (not_ordered counts) (ordered counts).by_epoch;
+            separated = separated_more queued id watch.knows_all watch.asks watch.cuts all (p ∷ [])
                 (λ place h cut has. elim h [ inl e ↦ subst (λ (k : ℕ). cut.place ≤ k) (sym e) (since counts cut has) | inr t ↦ absurd t ]) (ordered counts).separated;
             since = (ordered counts).since;
           })

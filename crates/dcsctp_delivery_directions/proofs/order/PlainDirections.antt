@@ -204,7 +204,7 @@ module _ (whole : Bool) (these : ℕ → Bool) (first size : ℕ) (old : Directi
   steady_on _ (receives_interleaved emission chunk theirs new was holds some same same' does) = steady_then theirs new same' (stays_steady these (i_data_arrival chunk) theirs new does (subst (λ (r : ReassemblyState). DefersBeside these r.deferral) (sym same') beside))
   steady_on _ (forwards_interleaved emission tsn streams theirs new was holds same same' does) = forwarded_i_steady emission tsn streams theirs new was holds same' does
   steady_on _ (tracks new cumulative ranges) = (beside, refl)
-  steady_on _ (defers last_tsn streams some) = (deferring_beside these last_tsn streams old.reassembly.deferral (asked_none streams some) beside, refl)
+  steady_on _ (defers last_tsn streams some) = (deferring_beside these last_tsn streams old.reassembly.deferral (asked_none streams some.asked) beside, refl)
   steady_on _ (performs newest earlier new asks unknown reached own leaves) = ended_steady newest.reset.streams new leaves
   steady_on _ (resets streams new unmixed some leaves) = ended_steady streams new leaves
   steady_on _ (performs_earlier newest earlier new asks unknown reached own leaves) = ended_steady newest.reset.streams new leaves

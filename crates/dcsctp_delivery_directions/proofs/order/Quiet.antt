@@ -11,10 +11,10 @@ use Rattle.dcsctp_spec_lemmas.specs.spec.queues.Incoming.{IncomingModel, stream_
 use Rattle.dcsctp_spec_lemmas.specs.spec.queues.IncomingStreams.{new_stream}
 use Rattle.dcsctp_spec_lemmas.specs.spec.queues.Numbers.{is_tsn_beyond}
 use Rattle.dcsctp_spec_lemmas.specs.spec.queues.Reassembly.{ReassemblyState, names_stream, waiting_of, skips_of, EndsDeferral}
-use Rattle.dcsctp_spec_lemmas.specs.spec.queues.Tracker.{TrackerState, has_received}
+use Rattle.dcsctp_spec_lemmas.specs.spec.queues.Tracker.{TrackerState}
 use Rattle.dcsctp_delivery_directions.specs.sending.Places.{HasEntry, at_place}
-use Rattle.dcsctp_delivery_directions.specs.sending.Log.{Message, Slot, Mark, History, sent_messages, Piece, newest_on, IsEndOrLimited}
-use Rattle.dcsctp_delivery_directions.specs.sending.Numbers.{is_handed_out, stream_named}
+use Rattle.dcsctp_delivery_directions.specs.sending.Log.{Message, Slot, Mark, History, sent_messages, Piece, newest_on, IsEndOrClosed}
+use Rattle.dcsctp_delivery_directions.specs.sending.Numbers.{IsCurrent, is_handed_out, stream_named}
 use Rattle.dcsctp_delivery_directions.proofs.sending.Extended.{at_more}
 use Rattle.dcsctp_delivery_directions.specs.receiving.Clear.{NoneSkips, NoneWaits, IsClear, IsOver, IsOwn}
 use Rattle.dcsctp_delivery_directions.specs.receiving.Ready.{AreDistinct, WereQueued, ordered_base}
@@ -35,8 +35,10 @@ use Rattle.dcsctp_delivery_directions.proofs.order.Ending.{quiet_with, ends_in_o
 use Rattle.dcsctp_delivery_directions.proofs.order.Taken.{received_later}
 use Rattle.dcsctp_delivery_directions.specs.order.Reading.{Watch, ComeSince}
 use Rattle.dcsctp_delivery_directions.specs.order.Incoming.{SendsNoMore, IsOrderedOrReset}
-use Rattle.dcsctp_delivery_directions.proofs.receiving.Tracked.{up_to}
-use Rattle.dcsctp_delivery_directions.proofs.order.AllSent.{not_later, all_sent_are_read}
+use Rattle.dcsctp_delivery_directions.specs.sending.Naming.{IsOfPiece}
+use Rattle.dcsctp_delivery_directions.proofs.receiving.Arriving.{fits_at}
+use Rattle.dcsctp_delivery_directions.proofs.order.HandledOrPast.{handled_or_past}
+use Rattle.dcsctp_delivery_directions.proofs.order.AllSent.{all_sent_are_read}
 use Rattle.dcsctp_spec.specs.types.declared.sending.UnderWay.{UnderWay}
 
 -- The stream is handed out, all its pieces came before a reset up to which all was received, and it is clear.
@@ -152,7 +154,7 @@ module _ (watch : ℕ → Watch) (first : ℕ) (old : Direction) (small : first 
       (subst (λ (b : BegunReset). IsOwn b.reset old.reassembly.deferral) (sym m.begins) own) all.forwards
 
   -- nothing is under way on a stream that is handed out
-  rests_on : (id : ℕ) → is_handed_out (stream_named id old.queues.queue.streams).pause ≡ true → (f : Piece) → newest_on id s.history.log ≡ Some f → IsEndOrLimited f
+  rests_on : (id : ℕ) → is_handed_out (stream_named id old.queues.queue.streams).pause ≡ true → (f : Piece) → newest_on id s.history.log ≡ Some f → IsEndOrClosed s.history.log f
   rests_on id handed f at = s.queues.numbers.rests id (go (stream_named id old.queues.queue.streams).under_way refl) f at
     where
       go : (u : Option UnderWay) → (stream_named id old.queues.queue.streams).under_way ≡ u → (stream_named id old.queues.queue.streams).under_way ≡ None
@@ -162,22 +164,21 @@ module _ (watch : ℕ → Watch) (first : ℕ) (old : Direction) (small : first 
   -- all that was sent on its streams is read
   named_are_read : (a : Arrives watch first s.history old.queued old.read old.tracker old.reassembly old.queues.queue.streams)
       → NamedAreReadOf watch old.queued s.history first s.queues.cut (known_log first old small s little) few turns a.places a.quiet a.received.got newest.reset.streams old.reassembly.incoming
-  named_are_read a now same base o id names loud counts knows unlimited =
-      all_sent_are_read (watch id) old.queued s.history s.queues.cut (known_log first old small s little) id counts (rests_on id (out id names).handed) now (ordered_base base) (a.places ++ o.holds.places) (o.holds.waits id)
+  named_are_read a now same base o id names loud counts knows n f is free =
+      all_sent_are_read (watch id) knows old.queued s.history s.queues.cut (known_log first old small s little) id counts (rests_on id (out id names).handed) now (ordered_base base) (a.places ++ o.holds.places) (o.holds.waits id)
       (stream_on id old.reassembly.incoming.streams) (o.holds.streams_hold id).rows.ordered
       (subst (λ (b : Bool). IsOrderedOrReset (watch id) b (sent_messages old.queued s.history) id (a.places ++ o.holds.places) (o.holds.waits id) (stream_on id old.reassembly.incoming.streams)) loud (o.order id counts))
-      handled unlimited (o.parts id counts unlimited loud)
+      each (o.parts id counts loud) n f is free
     where
-      handled : (n : ℕ) (f : Piece) → at_place n s.history.log ≡ Some (Some f) → f.message.stream ≡ id → f.message.is_limited ≡ false → HasEntry n now
-      handled n f at on free =
-          let below = (out id names).below n f at on in
+      each : (k : ℕ) (g : Piece) → g.message.stream ≡ id → g.message.is_unordered ≡ false → IsCurrent s.history g → IsOfPiece s.history.log g k → (j : ℕ) (h : Piece) → at_place j s.history.log ≡ Some (Some h) → h.message.stream ≡ id → k ≤ j
+          → (HasEntry k now × (at_place k s.history.log ≡ Some (Some g))) ⊎ (g.mid + 2 ^ 32 < s.history.floors id false + (stream_on id old.reassembly.incoming.streams).next)
+      each k g on kind current of j h at on' low =
+          let below = (out id names).below j h at on' in
           let up = passed in
-          let received : has_received old.tracker (tracked_number first n) ≡ true = up_to old.tracker.cumulative (tracked_number first n) old.tracker.ranges (omega (arith, below, up)) in
-          let taken = a.received.exact (window id knows) n (record { piece = f; at = at; free = free; known = ap (λ (k : ℕ). (watch k).knows_all) on ∙ knows }) received in
-          elim (a.received.either n taken) [
-            | inl g ↦ subst (λ (l : List ℕ). HasEntry n l) (sym same) g
-            | inr l ↦ absurd (not_later s.history first id a.received.later (waiting_of old.reassembly.deferral) a.received.defers (no_data id (out id names)) n f l at on)
-          ]
+          let fits = (fits_at old.queued h.place h.message s.fit (s.queues.cut.pieces j h at).at).stream in
+          subst (λ (l : List ℕ). (HasEntry k l × (at_place k s.history.log ≡ Some (Some g))) ⊎ (g.mid + 2 ^ 32 < s.history.floors id false + (stream_on id old.reassembly.incoming.streams).next)) (sym same)
+          (handled_or_past watch old.queued s.history a.quiet first a.places old.tracker old.reassembly a.received id (window id knows) (omega (arith, fits, on')) knows loud counts (no_data id (out id names)) (no_skips id (out id names)) k g on kind current of
+          (omega (arith, below, up, low)))
 
   pub performing_arrives : Arrives watch first s.history old.queued old.read old.tracker old.reassembly old.queues.queue.streams → Arrives watch first s.history old.queued old.read old.tracker new old.queues.queue.streams
   performing_arrives a =
@@ -189,7 +190,7 @@ module _ (watch : ℕ → Watch) (first : ℕ) (old : Direction) (small : first 
         received = ends_in_order watch old.queued s.history first s.queues.cut (known_log first old small s little) few turns a.places a.quiet newest.reset.streams old.tracker old.reassembly new
             (λ id is. elim (either_quiet (a.quiet id) (names_stream newest.reset.streams id) is) [ inl was ↦ (a.silent id was).clear.none | inr names ↦ no_data id (out id names) ])
             (λ id is. elim (either_quiet (a.quiet id) (names_stream newest.reset.streams id) is) [ inl was ↦ (a.silent id was).clear.kept | inr names ↦ no_skips id (out id names) ])
-            all.forwards a.received (named_are_read a) leaves;
+            all.forwards (λ id known. window id known) a.received (named_are_read a) leaves;
         silent = λ id is. elim (either_quiet (a.quiet id) (names_stream newest.reset.streams id) is) [
           | inl was ↦ (let q = a.silent id was in record { handed = q.handed; over = q.over; clear = clear_through_resets id newest.reset.streams old.reassembly new q.clear leaves })
           | inr names ↦

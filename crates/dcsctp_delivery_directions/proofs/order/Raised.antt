@@ -1,31 +1,38 @@
 -- A reset ends: the messages of the streams that were handed out are numbered from 0 again, and these
 -- streams are in order, as before they were quiet.
 use Rattle.std.proofs.Common.{◌≡◌, ℕ, Bool, true, false, ◌<◌, ◌≤◌, ◌+◌, ◌*◌, ◌^◌, List, [], ◌∷◌, ◌++◌, length, refl, sym, ◌∙◌, ap, arith, subst, inl, inr}
-use Rattle.std.specs.Prelude.{◌⊎◌, if◌then◌else◌, Some}
+use Rattle.std.specs.Prelude.{◌≢◌, ◌⊎◌, if◌then◌else◌, Some}
+use Rattle.std.specs.List.{AllByRecursion}
+use Rattle.dcsctp_spec_lemmas.specs.types.declared.arrivals.SkippedTo.{SkippedTo}
+use Rattle.dcsctp_spec_lemmas.specs.types.declared.arrivals.SkippedTo.TheVariants.{Mid}
 use Rattle.dcsctp_spec_lemmas.specs.spec.queues.Runs.{WholeModel}
-use Rattle.dcsctp_spec_lemmas.specs.spec.queues.IncomingStreams.{StreamModel, new_stream}
+use Rattle.dcsctp_spec_lemmas.specs.spec.queues.IncomingStreams.{StreamModel, new_stream, skipped_stream}
 use Rattle.dcsctp_spec_lemmas.specs.spec.queues.Incoming.{stream_on}
-use Rattle.dcsctp_spec_lemmas.specs.spec.queues.Reassembly.{ReassemblyState, waiting_of}
+use Rattle.dcsctp_spec_lemmas.specs.spec.queues.Reassembly.{ReassemblyState, waiting_of, skips_of}
 use Rattle.dcsctp_spec_lemmas.specs.types.queues.SendStreams.{Stream}
-use Rattle.dcsctp_spec_lemmas.specs.spec.queues.Tracker.{TrackerState}
-use Rattle.dcsctp_delivery_directions.specs.sending.Places.{at_place}
+use Rattle.dcsctp_spec_lemmas.specs.spec.queues.Tracker.{TrackerState, has_received}
+use Rattle.dcsctp_delivery_directions.specs.sending.Places.{HasEntry, at_place}
+use Rattle.dcsctp_delivery_directions.proofs.sending.Places.{decide}
+use Rattle.dcsctp_delivery_directions.specs.sending.Naming.{IsOfPiece, carries, closes}
+use Rattle.dcsctp_delivery_directions.specs.receiving.Received.{kept_entries}
+use Rattle.dcsctp_delivery_directions.specs.receiving.Tracked.{tracked_number}
 use Rattle.dcsctp_delivery_directions.specs.sending.Log.{Message, Piece, History, IsLogOfPieces, sent_messages}
 use Rattle.dcsctp_delivery_directions.specs.sending.Numbers.{AreOfKind, CountsMessages, IsCurrent, is_handed_out, stream_named}
 use Rattle.dcsctp_delivery_directions.specs.sending.Queueing.{floors_raised}
-use Rattle.dcsctp_delivery_directions.specs.receiving.Clear.{IsClear, IsOver, Unsent}
+use Rattle.dcsctp_delivery_directions.specs.receiving.Clear.{IsClear, IsOver, Unsent, NoneSkips}
 use Rattle.dcsctp_delivery_directions.specs.receiving.Ready.{WaitQueued, HoldsIncoming, ordered_base}
-use Rattle.dcsctp_delivery_directions.proofs.receiving.Raising.{KeptOr, kept_or_clear, holds_keeps, defers_keeps}
+use Rattle.dcsctp_delivery_directions.proofs.receiving.Raising.{KeptOr, kept_or_clear, holds_keeps, name_keeps, defers_keeps}
 use Rattle.dcsctp_delivery_directions.specs.order.Order.{IsSentAs, IsReadAs, AreReadAs}
 use Rattle.dcsctp_delivery_directions.specs.order.Epochs.{SendsEpochsInTurn}
 use Rattle.dcsctp_delivery_directions.specs.order.Reading.{CountsFromZero, OrderedStream, Watch}
 use Rattle.dcsctp_delivery_directions.specs.order.Incoming.{IsOrderedOrReset, IncomingOrdered}
-use Rattle.dcsctp_delivery_directions.specs.order.Received.{none_quiet, ReassemblesInOrder, none_handled, some_handled, HasReceivedInOrder}
+use Rattle.dcsctp_delivery_directions.specs.order.Received.{none_quiet, ReassemblesInOrder, none_handled, some_handled, HasReceivedInOrder, IsKeptSkip, IsSkipped, KnowsSkips}
 use Rattle.dcsctp_delivery_directions.proofs.order.Incoming.{quiet_where, no_gap_where}
 use Rattle.dcsctp_delivery_directions.proofs.order.Epochs.{whole_by_epoch}
 use Rattle.dcsctp_delivery_directions.proofs.order.Order.{resets_stay}
 use Rattle.dcsctp_delivery_directions.proofs.order.Received.{loud_by}
 use Rattle.dcsctp_delivery_directions.proofs.order.Unsent.{unsent_ordered}
-use Rattle.dcsctp_delivery_directions.specs.order.Parts.{AreUnlimitedSince, HoldsParts}
+use Rattle.dcsctp_delivery_directions.specs.order.Parts.{HoldsParts}
 use Rattle.dcsctp_delivery_directions.proofs.order.HeldParts.{parts_none, parts_anew, parts_floors}
 use Rattle.dcsctp_delivery_directions.specs.order.Queue.{Cut, AreSeparated}
 
@@ -76,7 +83,7 @@ module _ (queued : List Message) (history : History) (floors : ℕ → Bool → 
         by_epoch = record {
           filled = λ number low less. elim (o.by_epoch.filled number low less) [
             | inl has ↦ inl (record { place = has.place; has = has.has; is = read_so has.place number has.is })
-            | inr l ↦ inr (record { offset = l.offset; piece = l.piece; at = l.at; stream = l.stream; ordered = l.ordered; limited = l.limited; from = (let from = l.from in omega (arith, from, same)) })
+            | inr l ↦ inr (record { offset = l.offset; piece = l.piece; at = l.at; stream = l.stream; ordered = l.ordered; limited = l.limited; from = (let from = l.from in omega (arith, from, same)); only = λ known. (let only = l.only known in omega (arith, only, same)) })
           ];
           since = λ later has on. elim (o.by_epoch.since later has on) [
             | inl r ↦ inl (record { mid = r.mid; sent = sent_now later r.mid r.sent; from = (let from = r.from in omega (arith, from, same)); below = (let below = r.below in omega (arith, below, same)) })
@@ -102,7 +109,7 @@ module _ (watch : ℕ → Watch) (queued : List Message) (history : History) (st
   abbrev EndsSeparate : List ℕ → List ℕ → Type 0
   EndsSeparate got read =
       (base : ℕ) (o : IncomingOrdered watch (sent_messages queued history) quiet got base read reassembly.incoming) (id : ℕ) → is_handed_out (stream_named id streams).pause ≡ true
-      → AreSeparated (watch id).asks queued id (cuts id) (read ++ o.holds.places)
+      → AreSeparated (watch id).knows_all (watch id).asks queued id (cuts id) (read ++ o.holds.places)
 
   abbrev raised : History
   raised = floors_raised streams history
@@ -132,19 +139,19 @@ module _ (watch : ℕ → Watch) (queued : List Message) (history : History) (st
         holds = holds_raised got base read o.holds;
         order = λ id anew. by_pause id (is_handed_out (stream_named id streams).pause) refl;
         within = o.within;
-        parts = λ id anew unlimited loud. parts_by_pause id (is_handed_out (stream_named id streams).pause) refl unlimited;
+        parts = λ id anew loud. parts_by_pause id (is_handed_out (stream_named id streams).pause) refl;
       }
     where
-      parts_by_pause : (id : ℕ) (b : Bool) → is_handed_out (stream_named id streams).pause ≡ b → AreUnlimitedSince raised id → HoldsParts raised got id (stream_on id reassembly.incoming.streams)
-      parts_by_pause id true handed unlimited = elim (out id handed) [
+      parts_by_pause : (id : ℕ) (b : Bool) → is_handed_out (stream_named id streams).pause ≡ b → HoldsParts raised got id (stream_on id reassembly.incoming.streams)
+      parts_by_pause id true handed = elim (out id handed) [
         | inl none ↦ parts_none raised got (ordered_base base) id (stream_on id reassembly.incoming.streams) ((holds_raised got base read o.holds).streams_hold id).rows.ordered none
         | inr c ↦ subst (λ (s : StreamModel). HoldsParts raised got id s) (sym c.1.stream) (parts_anew raised got id (λ n f is has. none_current id handed n f is.at is.stream is.current))
       ]
-      parts_by_pause id false shut unlimited =
+      parts_by_pause id false shut =
           let loud : quiet id ≡ false = loud_by quiet id (λ is. (let clash : true ≡ false = sym (silent id is) ∙ shut in cc)) in
           let same_each : ((b : Bool) → raised.floors id b ≡ history.floors id b) =
           λ b. subst (λ (c : Bool). (if c then 2 ^ 32 * (history.floors id b + length history.log + 1) else history.floors id b) ≡ history.floors id b) (sym shut) refl in
-          parts_floors history raised.floors got id (stream_on id reassembly.incoming.streams) same_each (λ before same. o.parts id (counts id) before loud) unlimited refl
+          parts_floors history raised.floors got id (stream_on id reassembly.incoming.streams) same_each (λ same. o.parts id (counts id) loud) refl
 
       renewed : (id : ℕ) → is_handed_out (stream_named id streams).pause ≡ true → IsClear id reassembly → OrderedStream (watch_now id) queued raised id (read ++ o.holds.places) (o.holds.waits id) (stream_on id reassembly.incoming.streams)
       renewed id handed clear =
@@ -155,8 +162,8 @@ module _ (watch : ℕ → Watch) (queued : List Message) (history : History) (st
           (record {
             order = resets_stay queued history id (read ++ o.holds.places) raised.floors (above id handed) between;
             reach = record { from = omega arith; up_to = omega arith };
-            by_epoch = whole_by_epoch (watch id).asks queued raised id (read ++ o.holds.places)
-                (no_gap_where (watch id) queued history (quiet id) id (read ++ o.holds.places) (o.holds.waits id) (stream_on id reassembly.incoming.streams) (counts id) (turns id) (o.order id (counts id)));
+            by_epoch = whole_by_epoch (watch id).knows_all (watch id).asks queued raised id (read ++ o.holds.places)
+                (no_gap_where (watch id) queued history (quiet id) id (read ++ o.holds.places) (o.holds.waits id) (stream_on id reassembly.incoming.streams) cut (counts id) (turns id) (o.order id (counts id)));
             separated = recut base o id handed;
             since = λ cut has n f at on current. absurd (none_current id handed n f at on current);
           }))
@@ -174,6 +181,56 @@ module _ (watch : ℕ → Watch) (queued : List Message) (history : History) (st
           (ordered_now queued history raised.floors id same_each (watch id) (read ++ o.holds.places) (o.holds.waits id) (stream_on id reassembly.incoming.streams)
           (subst (λ (b : Bool). IsOrderedOrReset (watch id) b (sent_messages queued history) id (read ++ o.holds.places) (o.holds.waits id) (stream_on id reassembly.incoming.streams)) loud (o.order id (counts id))))
 
+  -- what is skipped is of streams that aren't numbered again
+  entry_raised : (reached : ℕ) (entry : SkippedTo) → KeptOr queued history streams (λ id. skipped_stream entry ≢ id) → IsKeptSkip history first reached entry → IsKeptSkip raised first reached entry
+  entry_raised reached entry may k = record { offset = k.offset; low = k.low; names = name_keeps queued history streams (k.offset + 1) entry may k.names }
+
+  entries_raised : (reached : ℕ) (entries : List SkippedTo) → KeptOr queued history streams (λ id. NoneSkips id entries) → AllByRecursion (IsKeptSkip history first reached) entries → AllByRecursion (IsKeptSkip raised first reached) entries
+  entries_raised reached [] may all = tt
+  entries_raised reached (entry ∷ entries) may all = (
+    entry_raised reached entry (λ id. elim (may id) [ inl keep ↦ inl keep | inr none ↦ inr none.0 ]) all.0,
+    entries_raised reached entries (λ id. elim (may id) [ inl keep ↦ inl keep | inr none ↦ inr none.1 ]) all.1,
+  )
+
+  knows_raised : (taken : List ℕ) (tracker : TrackerState) → KnowsSkips watch (sent_messages queued history) quiet first taken tracker reassembly → KnowsSkips watch_now (sent_messages queued raised) none_quiet first taken tracker reassembly
+  unfolding entry_raised
+  knows_raised taken tracker k =
+      record {
+        kept = entries_raised tracker.cumulative (kept_entries (skips_of reassembly.deferral)) (λ id. elim (kept id) [ inl keep ↦ inl keep | inr c ↦ inr c.1.kept ]) k.kept;
+        each = λ small id little knows loud now n f on kind current of received. by_pause id (is_handed_out (stream_named id streams).pause) refl small little knows n f on kind current of received;
+      }
+    where
+      there : (f : Piece) (n : ℕ) → IsOfPiece history.log f n → (m : ℕ) × (at_place m history.log ≡ Some (Some f))
+      there f _ (carries n at) = (n, at)
+      there f _ (closes n at end) = (n, at)
+
+      by_pause : (id : ℕ) (b : Bool) → is_handed_out (stream_named id streams).pause ≡ b → reassembly.max_size ≤ 2 ^ 63 → id < 2 ^ 16 → (watch id).knows_all ≡ true
+          → (n : ℕ) (f : Piece) → f.message.stream ≡ id → f.message.is_unordered ≡ false → IsCurrent raised f → IsOfPiece history.log f n → has_received tracker (tracked_number first n) ≡ true
+          → (HasEntry n taken × (at_place n history.log ≡ Some (Some f))) ⊎ IsSkipped raised first tracker.cumulative id (stream_on id reassembly.incoming.streams).next (skips_of reassembly.deferral) f n
+      by_pause id true handed small little knows n f on kind current of received = absurd (let (m, at) = there f n of in none_current id handed m f at on current)
+      by_pause id false shut small little knows n f on kind current of received =
+          let loud : quiet id ≡ false = loud_by quiet id (λ is. (let clash : true ≡ false = sym (silent id is) ∙ shut in cc)) in
+          let same : ((b : Bool) → raised.floors id b ≡ history.floors id b) =
+          λ b. subst (λ (c : Bool). (if c then 2 ^ 32 * (history.floors id b + length history.log + 1) else history.floors id b) ≡ history.floors id b) (sym shut) refl in
+          let was : history.floors f.message.stream f.message.is_unordered ≤ f.mid =
+          subst (λ (j : ℕ). j ≤ f.mid) (ap (λ (s : ℕ). raised.floors s f.message.is_unordered) on ∙ same f.message.is_unordered ∙ ap (λ (s : ℕ). history.floors s f.message.is_unordered) (sym on)) current in
+          let floor = same false in
+          elim (k.each small id little knows loud (counts id) n f on kind was of received) [
+            | inl t ↦ inl t
+            | inr s ↦ elim s [
+              | inl past ↦ inr (inl (omega (arith, past, floor)))
+              | inr w ↦ inr (inr (record {
+                mid = w.mid;
+                has = w.has;
+                kept = entry_raised tracker.cumulative (Mid (record { 0 = id }) false w.mid) (λ other. elim (decide other id) [
+                  | inl e ↦ inl (λ m g at' on' current'. subst (λ (j : ℕ). j ≤ g.mid) (ap (λ (s' : ℕ). history.floors s' g.message.is_unordered) (on' ∙ e) ∙ sym (same g.message.is_unordered) ∙ ap (λ (s' : ℕ). raised.floors s' g.message.is_unordered) (sym (on' ∙ e))) current')
+                  | inr ne ↦ inr (λ is. ne (sym is))
+                ]) w.kept;
+                below = w.below;
+              }))
+            ]
+          ]
+
   pub raised_in_order : (read : List ℕ) (tracker : TrackerState) → (r : HasReceivedInOrder watch (sent_messages queued history) quiet first read tracker reassembly) → ((got : List ℕ) → got ≡ r.got → EndsSeparate got read) → HasReceivedInOrder watch_now (sent_messages queued raised) none_quiet first read tracker reassembly
   raised_in_order read tracker r recut =
       record {
@@ -189,6 +246,7 @@ module _ (watch : ℕ → Watch) (queued : List Message) (history : History) (st
         distinct = r.distinct;
         holds = go r.holds;
         defers = defers_keeps queued history streams first r.later (waiting_of reassembly.deferral) (λ id. elim (kept id) [ inl keep ↦ inl keep | inr c ↦ inr c.1.none ]) r.defers;
+        skips = knows_raised r.taken tracker r.skips;
       }
     where
       go : ReassemblesInOrder watch (sent_messages queued history) quiet first r.got read reassembly.incoming → ReassemblesInOrder watch_now (sent_messages queued raised) none_quiet first r.got read reassembly.incoming

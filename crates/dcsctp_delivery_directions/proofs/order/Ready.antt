@@ -30,7 +30,7 @@ use Rattle.dcsctp_delivery_directions.specs.order.Incoming.{IsOrderedOrReset, Ho
 use Rattle.dcsctp_delivery_directions.proofs.order.Leaving.{others_where}
 use Rattle.dcsctp_delivery_directions.proofs.order.Reading.{mids_are_read, numbers_are_fresh, mids_counted}
 use Rattle.dcsctp_delivery_directions.proofs.order.Leaving.{IsOnIt, one_stream, wait_on_it, LeavesOrder, none_left, ordered_left, apart_left, alike_ordered}
-use Rattle.dcsctp_delivery_directions.specs.order.Parts.{AreUnlimitedSince, HoldsParts}
+use Rattle.dcsctp_delivery_directions.specs.order.Parts.{HoldsParts}
 use Rattle.dcsctp_delivery_directions.proofs.order.HeldParts.{parts_alike, parts_else, parts_taken}
 use Rattle.dcsctp_delivery_directions.specs.order.Rising.{IsAhead}
 use Rattle.dcsctp_delivery_directions.proofs.order.Rising.{parts_deliver_rows}
@@ -76,7 +76,7 @@ module _ (watch : ℕ → Watch) (queued : List Message) (history : History) (qu
     -- the invariant once its stream is left so
     holds_then : (id : ℕ) → quiet id ≡ false → (later : ℕ → StreamModel) (runs : List RunModel) (after : List MessageContent) → StreamRows history now base id (later id)
         → AreRows history.log now (unordered_base base) IsOfStream runs → ((other : ℕ) → other ≢ id → later other ≡ streams other) → LeavesOrder (watch id) queued history now all o.holds.places id (later id) after
-        → id ≡ chunk.stream → (CountsFromZero history id → AreUnlimitedSince history id → HoldsParts history now id (later id))
+        → id ≡ chunk.stream → (CountsFromZero history id → HoldsParts history now id (later id))
         → HoldsOrdered watch (sent_messages queued history) quiet now base read (held_messages later runs after)
     unfolding all
     holds_then id loud later runs after rows apart others leaves home parts =
@@ -121,12 +121,12 @@ module _ (watch : ℕ → Watch) (queued : List Message) (history : History) (qu
                 (others_then id other leaves.more leaves.on ne counts))
           ];
           within = λ n has. elim has [ inl e ↦ (let below = at_below bears.offset (Some bears.piece) history.log bears.at in omega (arith, e, below)) | inr t ↦ o.within n t ];
-          parts = λ other counts unlimited aloud'. elim (decide other id) [
-            | inl e ↦ subst (λ (k : ℕ). HoldsParts history now k (later k)) (sym e) (parts (subst (λ (k : ℕ). CountsFromZero history k) e counts) (subst (λ (k : ℕ). AreUnlimitedSince history k) e unlimited))
+          parts = λ other counts aloud'. elim (decide other id) [
+            | inl e ↦ subst (λ (k : ℕ). HoldsParts history now k (later k)) (sym e) (parts (subst (λ (k : ℕ). CountsFromZero history k) e counts))
             | inr ne ↦
                 subst (λ (s : StreamModel). HoldsParts history now other s) (sym (others other ne))
                 (parts_else history got other (streams other) bears.offset
-                (λ f since number counted up. ne (sym since.stream ∙ ap (λ (x : Piece). x.message.stream) (its_piece other f since) ∙ sym bears.stream ∙ sym home)) (o.parts other counts unlimited aloud'))
+                (λ f since number counted up. ne (sym since.stream ∙ ap (λ (x : Piece). x.message.stream) (its_piece other f since) ∙ sym bears.stream ∙ sym home)) (o.parts other counts aloud'))
           ];
         }
 
@@ -170,9 +170,9 @@ module _ (watch : ℕ → Watch) (queued : List Message) (history : History) (qu
         (subst (λ (s : StreamModel). WaitQueued queued history now chunk.stream (o.holds.waits chunk.stream) s.waiting) (sym same) here_wait) (o.holds.once chunk.stream) same'
         (λ counts. subst (λ (l : List ℕ). OrderedStream (watch chunk.stream) queued history chunk.stream l (o.holds.waits chunk.stream) (later chunk.stream)) (sym (append-nil all))
         (same_order (later chunk.stream) (ap (λ (s : StreamModel). s.next) same) (ap (λ (s : StreamModel). s.waiting) same) counts))) refl
-        (λ counts unlimited. subst (λ (s : StreamModel). HoldsParts history now chunk.stream s) (sym same)
+        (λ counts. subst (λ (s : StreamModel). HoldsParts history now chunk.stream s) (sym same)
         (parts_else history got chunk.stream (streams chunk.stream) bears.offset
-        (λ f since number counted up. none counts number (subst (λ (x : Piece). x.mid + 2 ^ 32 ≡ history.floors chunk.stream false + number) (its_piece chunk.stream f since) counted) up) (o.parts chunk.stream counts unlimited aloud)))
+        (λ f since number counted up. none counts number (subst (λ (x : Piece). x.mid + 2 ^ 32 ≡ history.floors chunk.stream false + number) (its_piece chunk.stream f since) counted) up) (o.parts chunk.stream counts aloud)))
 
     -- an ordered chunk
     ahead : (place number : ℕ) (later : ℕ → StreamModel) (runs : List RunModel) (after : List MessageContent) (taken : Taken) → IsPiecePlaced (ordered_base base) bears.offset bears.piece number place → IsOn history chunk.stream bears.piece number
@@ -211,8 +211,8 @@ module _ (watch : ℕ → Watch) (queued : List Message) (history : History) (qu
             }) (rows_kept runs kept) others
             (ordered_left (watch chunk.stream) queued history now all o.holds.places (o.holds.waits chunk.stream) chunk.stream bears.piece.place (data_part chunk place number) (streams chunk.stream) (later chunk.stream) ready after taken
             (sym here.rows.is) o.holds.were_queued here_wait (o.holds.once chunk.stream) (fresh chunk.stream) here_order reads does rows.1 from) refl
-            (λ counts unlimited. parts_taken queued history cut told chunk.stream counts got (ordered_base base) (streams chunk.stream) here.rows.ordered bears.offset bears.piece (since counts) (data_part chunk place number) named (exact counts)
-            (placed_interleaved (ordered_base base) bears.offset bears.piece number place (counts.kinds bears.offset bears.piece bears.at) placed) (later chunk.stream) ready after taken is_new (from counts) (o.parts chunk.stream counts unlimited aloud) does
+            (λ counts. parts_taken queued history cut told chunk.stream counts got (ordered_base base) (streams chunk.stream) here.rows.ordered bears.offset bears.piece (since counts) (data_part chunk place number) named (exact counts)
+            (placed_interleaved (ordered_base base) bears.offset bears.piece number place (counts.kinds bears.offset bears.piece bears.at) placed) (later chunk.stream) ready after taken is_new (from counts) (o.parts chunk.stream counts aloud) does
             (parts_deliver_rows (data_part chunk place number) (streams chunk.stream) ready taken (later chunk.stream) after (here_order counts).order.ahead (ahead_of counts) does))
         go true e =
             let does = takes.repeated e in
@@ -272,9 +272,9 @@ module _ (watch : ℕ → Watch) (queued : List Message) (history : History) (qu
         (renamed queued history now (IsApart history chunk.stream) (OfStream chunk.stream) (λ f k named'. named'.0) bears.piece.place takes.unordered.outcome rows.1) (o.holds.once chunk.stream) (fresh chunk.stream)
         (same_order (later chunk.stream) takes.others.1 takes.others.2) (λ counts on. not_ordered unordered_is on)
         (λ counts cut' has. (here_order counts).since cut' has bears.offset bears.piece bears.at named.0 (named.1 (counts.kinds bears.offset bears.piece bears.at)).2) takes.unordered.does) refl
-        (λ counts unlimited. parts_alike history now chunk.stream (streams chunk.stream) (later chunk.stream) takes.others.1 takes.others.2 takes.others.3
+        (λ counts. parts_alike history now chunk.stream (streams chunk.stream) (later chunk.stream) takes.others.1 takes.others.2 takes.others.3
         (parts_else history got chunk.stream (streams chunk.stream) bears.offset
-        (λ f since number counted up. (let clash : true ≡ false = sym unordered_is ∙ ap (λ (x : Piece). x.message.is_unordered) (sym (its_piece chunk.stream f since)) ∙ since.ordered in cc)) (o.parts chunk.stream counts unlimited aloud)))
+        (λ f since number counted up. (let clash : true ≡ false = sym unordered_is ∙ ap (λ (x : Piece). x.message.is_unordered) (sym (its_piece chunk.stream f since)) ∙ since.ordered in cc)) (o.parts chunk.stream counts aloud)))
 
     -- an unordered message of DATA that is whole, or a part of one
     makes_on : (place number : ℕ) (outcome : Assembly) → number ≡ chunk.stream → MakesQueued queued history.log now IsOfStream place outcome → IsOfMessage number outcome → MakesQueued queued history.log now (OfStream chunk.stream) place outcome

@@ -1,6 +1,6 @@
 -- What is received leaves each stream in order: nothing that is new is of a quiet stream.
 use Rattle.std.proofs.Common.{◌≡◌, ℕ, Bool, true, false, ◌<◌, ◌+◌, ◌-◌, ◌%◌, ◌^◌, List, [], ◌∷◌, ◌++◌, length, refl, sym, ◌∙◌, ap, arith, subst, inl, inr, ◌≤◌}
-use Rattle.std.specs.Prelude.{◌&&◌, not, if◌then◌else◌, Option, None, Some}
+use Rattle.std.specs.Prelude.{◌&&◌, Option, None, Some}
 use Rattle.std.proofs.lemmas.List.{append-nil}
 use Rattle.dcsctp_spec_lemmas.specs.types.declared.arrivals.SkippedTo.{SkippedTo}
 use Rattle.dcsctp_spec_lemmas.specs.types.declared.tracking.TsnRange.{TsnRange}
@@ -9,30 +9,31 @@ use Rattle.dcsctp_spec_lemmas.specs.spec.queues.Numbers.{number_near}
 use Rattle.dcsctp_spec_lemmas.specs.spec.queues.Ranges.{IsBeyond, is_received}
 use Rattle.dcsctp_spec_lemmas.specs.spec.queues.IncomingStreams.{ChunkModel, skipped_stream}
 use Rattle.dcsctp_spec_lemmas.specs.spec.queues.Incoming.{IncomingModel, TakesIncomingChunk, MovesOn}
-use Rattle.dcsctp_spec_lemmas.specs.spec.queues.Reassembly.{ReassemblyState, can_count, entries_beside, is_data_deferred, is_forward_deferred, names_stream, AddsData, SkipsData, DeferralModel, waiting_of, begun_deferral, deferring}
-use Rattle.dcsctp_spec_lemmas.specs.spec.queues.Tracker.{TrackerState, has_received, is_new_tsn, tracker_after_data, is_forward, is_valid_tsn, after_forward, delay_over, moved_forward}
+use Rattle.dcsctp_spec_lemmas.specs.spec.queues.Reassembly.{ReassemblyState, can_count, is_data_deferred, AddsData, DeferralModel, waiting_of, skips_of, with_waiting, with_deferred, begun_deferral, deferring}
+use Rattle.dcsctp_spec_lemmas.specs.spec.queues.Tracker.{TrackerState, has_received, is_new_tsn, tracker_after_data, is_valid_tsn, delay_over}
 use Rattle.dcsctp_spec_lemmas.specs.spec.queues.Transfer.{Transfer}
-use Rattle.dcsctp_spec_lemmas.specs.spec.endpoint.TransferMoves.{AddsIfNew, has_room, dropping, ReceivesIfRoom, SkipsIfMoved, GoesForward, MovesIfForward, ReceivesData, MovesForward, TakesData as TakesArrival}
-use Rattle.dcsctp_delivery_directions.specs.sending.Places.{HasEntry}
+use Rattle.dcsctp_spec_lemmas.specs.spec.endpoint.TransferMoves.{AddsIfNew, has_room, dropping, ReceivesIfRoom, ReceivesData, TakesData as TakesArrival}
+use Rattle.dcsctp_delivery_directions.specs.sending.Places.{HasEntry, at_place}
 use Rattle.dcsctp_delivery_directions.specs.sending.Log.{Message, History, IsLogOfPieces, sent_messages}
-use Rattle.dcsctp_delivery_directions.specs.sending.Numbers.{AreOfKind, IsUnambiguous}
+use Rattle.dcsctp_delivery_directions.specs.sending.Numbers.{IsUnambiguous}
 use Rattle.dcsctp_delivery_directions.proofs.sending.Places.{at_below}
-use Rattle.dcsctp_delivery_directions.specs.receiving.Ready.{AreDistinct, AreNamed, IsNamedEntry, SkipAll}
-use Rattle.dcsctp_delivery_directions.specs.receiving.Received.{Carries, CarriesCurrent, IsTsn, SkipsTo, DefersData, Few}
+use Rattle.dcsctp_delivery_directions.specs.receiving.Ready.{AreDistinct}
+use Rattle.dcsctp_delivery_directions.specs.receiving.Received.{Carries, CarriesCurrent, IsTsn, DefersData, Few}
 use Rattle.dcsctp_delivery_directions.specs.receiving.Tracked.{tracked_number, Tracks}
 use Rattle.dcsctp_delivery_directions.specs.receiving.Clear.{NoneSkips, IsOver}
-use Rattle.dcsctp_delivery_directions.proofs.receiving.Clear.{old_tsn, forward_behind, all_skip_others}
-use Rattle.dcsctp_delivery_directions.proofs.receiving.Current.{OthersArePast, carries_current, skips_to}
+use Rattle.dcsctp_delivery_directions.proofs.receiving.Clear.{old_tsn}
+use Rattle.dcsctp_delivery_directions.proofs.receiving.Current.{OthersArePast, carries_current}
 use Rattle.dcsctp_delivery_directions.proofs.receiving.Distinct.{has_either, distinct_with, has_left, has_right}
-use Rattle.dcsctp_delivery_directions.proofs.receiving.Kept.{all_left, deferred_by, each_named}
 use Rattle.dcsctp_delivery_directions.proofs.receiving.Reassembled.{first_number, first_base, first_near, number_read, few_behind, bears_of, waiting_data}
-use Rattle.dcsctp_delivery_directions.proofs.receiving.Taking.{nothing_passed}
-use Rattle.dcsctp_delivery_directions.proofs.receiving.Tracked.{new_is_new, passing_keeps, delayed_tracks, new_beyond, forward_beyond, passed_either, up_to}
+use Rattle.dcsctp_delivery_directions.proofs.receiving.Tracked.{new_is_new, delayed_tracks, new_beyond, observed_up}
 use Rattle.dcsctp_delivery_directions.specs.order.Incoming.{IncomingOrdered, NoneIsQuiet}
-use Rattle.dcsctp_delivery_directions.specs.order.Received.{ReassemblesInOrder, none_handled, some_handled, HasReceivedInOrder, IsKnownTsn}
+use Rattle.dcsctp_delivery_directions.specs.order.Received.{ReassemblesInOrder, none_handled, some_handled, HasReceivedInOrder, IsKnownTsn, KnowsSkips}
 use Rattle.dcsctp_delivery_directions.proofs.order.Ready.{ready_in_order}
 use Rattle.dcsctp_delivery_directions.proofs.order.Skipping.{skipping_in_order}
 use Rattle.dcsctp_delivery_directions.specs.order.Reading.{Watch}
+use Rattle.dcsctp_delivery_directions.specs.order.Skips.{AreSkipsHandled}
+use Rattle.dcsctp_delivery_directions.proofs.order.ForwardsKnown.{next_grows}
+use Rattle.dcsctp_delivery_directions.proofs.order.KnowsSkips.{AreNewlyTaken, knows_on, knows_moved, observed_either, known_before}
 use Rattle.dcsctp_delivery_directions.proofs.order.PlainReceived.{observed_exact, known_exact}
 use Rattle.dcsctp_delivery_directions.proofs.receiving.Joining.{both}
 
@@ -70,20 +71,20 @@ module _ (queued : List Message) (history : History) (first : ℕ) (cut : IsLogO
       (ready_in_order watch queued history quiet cut told got base tsn read chunk old new (bears_of history first base offset tsn (number_near old.last_tsn_number tsn) chunk c number) is_new loud
       (subst (λ (l : List ℕ). IncomingOrdered watch (sent_messages queued history) quiet l base read old) (sym none) (empty base)) takes)
 
-  pub forward_in_order : (watch : ℕ → Watch) → (got : List ℕ) (tsn : ℕ) (entries : List SkippedTo) (old new : IncomingModel) → IsTsn history.log first tsn → AreNamed history entries → NoneIsQuiet quiet entries
+  pub forward_in_order : (watch : ℕ → Watch) → (got : List ℕ) (tsn : ℕ) (entries : List SkippedTo) (old new : IncomingModel) → IsTsn history.log first tsn → AreSkipsHandled watch history got entries → NoneIsQuiet quiet entries
       → ReassemblesInOrder watch (sent_messages queued history) quiet first got read old → MovesOn tsn entries old new → ReassemblesInOrder watch (sent_messages queued history) quiet first got read new
   forward_in_order watch got tsn entries old new t names loud (some_handled base is holds) moves =
       let few : t.offset < 2 ^ 31 = omega (arith, f.few, t.below) in
       let number = number_read first base old.last_tsn_number t.offset tsn is few t.is in
       some_handled base (record { same = is.same; near = is.near; worked = t.offset; few = few; is = moves.last ∙ number })
-      (skipping_in_order watch queued history quiet got base read tsn entries old new names loud holds moves)
+      (skipping_in_order watch queued history quiet got base read tsn entries old new cut told names loud holds moves)
   forward_in_order watch got tsn entries old new t names loud (none_handled none last empty) moves =
       let few : t.offset < 2 ^ 31 = omega (arith, f.few, t.below) in
       let base : ℕ = number_near (2 ^ 32) ((first + t.offset) % 2 ^ 32) - t.offset in
       let up = first_number first t.offset f.small few in
       let number : number_near old.last_tsn_number tsn ≡ base + t.offset = ap (λ (l : ℕ). number_near l tsn) last ∙ ap (number_near (2 ^ 32)) t.is ∙ omega (arith, up) in
       some_handled base (record { same = first_base first t.offset f.small few; near = first_near first t.offset f.small few; worked = t.offset; few = few; is = moves.last ∙ number })
-      (skipping_in_order watch queued history quiet got base read tsn entries old new names loud (subst (λ (l : List ℕ). IncomingOrdered watch (sent_messages queued history) quiet l base read old) (sym none) (empty base)) moves)
+      (skipping_in_order watch queued history quiet got base read tsn entries old new cut told names loud (subst (λ (l : List ℕ). IncomingOrdered watch (sent_messages queued history) quiet l base read old) (sym none) (empty base)) moves)
 
 -- ---- the tracker
 
@@ -109,10 +110,11 @@ tracks_alike first count taken tracker now same same' t =
 
 module _ (watch : ℕ → Watch) (queued : List Message) (history : History) (quiet : ℕ → Bool) (first : ℕ) (read : List ℕ) where
   -- the tracker moves alone
-  tracked_on : (tracker now : TrackerState) (reassembly : ReassemblyState) (r : HasReceivedInOrder watch (sent_messages queued history) quiet first read tracker reassembly) → Tracks first (length history.log) r.taken now
-      → (reassembly.max_size ≤ 2 ^ 63 → (k : ℕ) → IsKnownTsn watch history k → has_received now (tracked_number first k) ≡ true → HasEntry k r.taken)
+  pub tracked_on : (tracker now : TrackerState) (reassembly : ReassemblyState) (r : HasReceivedInOrder watch (sent_messages queued history) quiet first read tracker reassembly) → Tracks first (length history.log) r.taken now
+      → (reassembly.max_size ≤ 2 ^ 63 → (k : ℕ) → IsKnownTsn watch history k → has_received now (tracked_number first k) ≡ true → HasEntry k r.taken) → tracker.cumulative ≤ now.cumulative
+      → (reassembly.max_size ≤ 2 ^ 63 → AreNewlyTaken watch queued history quiet first r.taken tracker now)
       → HasReceivedInOrder watch (sent_messages queued history) quiet first read now reassembly
-  tracked_on tracker now reassembly r tracks exact =
+  tracked_on tracker now reassembly r tracks exact up new =
       record {
         taken = r.taken;
         got = r.got;
@@ -126,12 +128,14 @@ module _ (watch : ℕ → Watch) (queued : List Message) (history : History) (qu
         distinct = r.distinct;
         holds = r.holds;
         defers = r.defers;
+        skips = knows_on watch queued history quiet first r.taken r.taken tracker now reassembly up (λ k h. h) new r.skips;
       }
 
   pub tracked_in_order : (tracker now : TrackerState) (reassembly : ReassemblyState) → now.cumulative ≡ tracker.cumulative → now.ranges ≡ tracker.ranges → HasReceivedInOrder watch (sent_messages queued history) quiet first read tracker reassembly
       → HasReceivedInOrder watch (sent_messages queued history) quiet first read now reassembly
   tracked_in_order tracker now reassembly same same' r = tracked_on tracker now reassembly r (tracks_alike first (length history.log) r.taken tracker now same same' r.tracks)
-      (λ small k is known. r.exact small k is (sym (alike_received tracker now same same' (tracked_number first k)) ∙ known))
+      (λ small k is known. r.exact small k is (sym (alike_received tracker now same same' (tracked_number first k)) ∙ known)) (omega (arith, same))
+      (λ small n known. inl (sym (alike_received tracker now same same' (tracked_number first n)) ∙ known))
 
   -- a reset is deferred
   pub deferring_in_order : (last_tsn : ℕ) (streams : List ℕ) (tracker : TrackerState) (reassembly : ReassemblyState) → HasReceivedInOrder watch (sent_messages queued history) quiet first read tracker reassembly
@@ -150,8 +154,13 @@ module _ (watch : ℕ → Watch) (queued : List Message) (history : History) (qu
         distinct = r.distinct;
         holds = r.holds;
         defers = go reassembly.deferral r.defers;
+        skips = knows_moved watch queued history quiet first r.taken tracker reassembly (deferring last_tsn streams reassembly) refl (same_skips reassembly.deferral) (λ id counts loud. omega arith) r.skips;
       }
     where
+      same_skips : (d : Option DeferralModel) → skips_of (begun_deferral last_tsn streams d) ≡ skips_of d
+      same_skips None = refl
+      same_skips (Some d) = refl
+
       go : (d : Option DeferralModel) → DefersData history first r.later (waiting_of d) → DefersData history first r.later (waiting_of (begun_deferral last_tsn streams d))
       go None defers = defers
       go (Some d) defers = defers
@@ -167,14 +176,21 @@ module _ (watch : ℕ → Watch) (queued : List Message) (history : History) (fi
   added : (offset tsn : ℕ) (chunk : ChunkModel) (tracker now : TrackerState) (old new : ReassemblyState) → CarriesCurrent history first offset tsn chunk → (r : HasReceivedInOrder watch (sent_messages queued history) quiet first read tracker old)
       → Tracks first (length history.log) (offset ∷ r.taken) now → (HasEntry offset r.taken → ⊥) → quiet chunk.stream ≡ false
       → (old.max_size ≤ 2 ^ 63 → can_count (length chunk.payload) old ≡ true) → (old.max_size ≤ 2 ^ 63 → (k : ℕ) → IsKnownTsn watch history k → has_received now (tracked_number first k) ≡ true → HasEntry k (offset ∷ r.taken))
-      → AddsData tsn chunk old new → HasReceivedInOrder watch (sent_messages queued history) quiet first read now new
-  added offset tsn chunk tracker now old new c r tracks is_new loud counted exact adds = go (can_count (length chunk.payload) old) refl (is_data_deferred tsn chunk.stream old.deferral) refl
+      → tracker.cumulative ≤ now.cumulative → (old.max_size ≤ 2 ^ 63 → AreNewlyTaken watch queued history quiet first (offset ∷ r.taken) tracker now) → AddsData tsn chunk old new → HasReceivedInOrder watch (sent_messages queued history) quiet first read now new
+  added offset tsn chunk tracker now old new c r tracks is_new loud counted exact up fresh adds = go (can_count (length chunk.payload) old) refl (is_data_deferred tsn chunk.stream old.deferral) refl
     where
+      its_skips : KnowsSkips watch (sent_messages queued history) quiet first (offset ∷ r.taken) now old
+      its_skips = knows_on watch queued history quiet first r.taken (offset ∷ r.taken) tracker now old up (λ k h. inr h) fresh r.skips
+
+      same_skips : (d : Option DeferralModel) → skips_of (with_waiting (record { tsn = tsn; chunk = chunk }) d) ≡ skips_of d
+      same_skips None = refl
+      same_skips (Some d) = refl
+
       go : (counts : Bool) → can_count (length chunk.payload) old ≡ counts → (waits : Bool) → is_data_deferred tsn chunk.stream old.deferral ≡ waits → HasReceivedInOrder watch (sent_messages queued history) quiet first read now new
       go false counts waits deferred =
           subst (λ (s : ReassemblyState). HasReceivedInOrder watch (sent_messages queued history) quiet first read now s) (sym (adds.too_much counts))
           (tracked_on watch queued history quiet first read tracker now old r (tracks_fewer first (length history.log) (offset ∷ r.taken) r.taken now (λ k h. inr h) tracks)
-          (λ small k is. absurd (let clash : true ≡ false = sym (counted small) ∙ counts in cc)))
+          (λ small k is. absurd (let clash : true ≡ false = sym (counted small) ∙ counts in cc)) up (λ small. absurd (let clash : true ≡ false = sym (counted small) ∙ counts in cc)))
       go true counts true deferred =
           subst (λ (s : ReassemblyState). HasReceivedInOrder watch (sent_messages queued history) quiet first read now s) (sym (adds.deferred counts deferred))
           (record {
@@ -200,6 +216,7 @@ module _ (watch : ℕ → Watch) (queued : List Message) (history : History) (fi
                 (λ h. is_new (r.later_taken offset (subst (λ (l : List ℕ). HasEntry offset l) (append-nil r.later) h)));
             holds = r.holds;
             defers = waiting_data history first offset tsn chunk r.later old.deferral deferred c r.defers;
+            skips = knows_moved watch queued history quiet first (offset ∷ r.taken) now old (with_deferred tsn chunk old) refl (same_skips old.deferral) (λ id counts' loud'. omega arith) its_skips;
           })
       go true counts false deferred =
           let takes = adds.taken counts deferred in
@@ -216,6 +233,8 @@ module _ (watch : ℕ → Watch) (queued : List Message) (history : History) (fi
             distinct = r.distinct;
             holds = data_in_order queued history first cut told f quiet read watch r.got offset tsn chunk old.incoming new.incoming c (λ h. is_new (r.got_taken offset h)) loud r.holds takes.incoming;
             defers = subst (λ (d : Option DeferralModel). DefersData history first r.later (waiting_of d)) (sym takes.deferral) r.defers;
+            skips = knows_moved watch queued history quiet first (offset ∷ r.taken) now old new takes.window (ap skips_of takes.deferral)
+                (λ id counts' aloud. next_grows watch queued history quiet first read r.got tsn id chunk old.incoming new.incoming r.holds aloud counts' takes.incoming) its_skips;
           }
 
   taken_in_order : (offset : ℕ) (arrival : Arrival) (old new : Transfer) → Carries history.log first offset arrival.tsn arrival.chunk → OthersArePast history first old.tracker.cumulative → QuietAreOver history quiet first old.tracker.cumulative
@@ -242,6 +261,17 @@ module _ (watch : ℕ → Watch) (queued : List Message) (history : History) (fi
           subst (λ (t : ℕ). (k : ℕ) → IsKnownTsn watch history k → has_received (tracker_after_data t arrival.immediate_ack old.tracker) (tracked_number first k) ≡ true → HasEntry k (offset ∷ r.taken)) (sym c.is)
           (observed_exact first (length history.log) offset arrival.immediate_ack old.tracker r.taken f.small f.few below r.tracks (IsKnownTsn watch history) (r.exact small))
 
+      up : old.tracker.cumulative ≤ now.cumulative
+      up = observed_up arrival.tsn arrival.immediate_ack old.tracker r.tracks.beyond
+
+      fresh : old.reassembly.max_size ≤ 2 ^ 63 → AreNewlyTaken watch queued history quiet first (offset ∷ r.taken) old.tracker now
+      fresh small n e =
+          elim (observed_either first (length history.log) offset arrival.immediate_ack r.taken old.tracker f.small f.few below r.tracks n
+          (ap (λ (t : ℕ). has_received (tracker_after_data t arrival.immediate_ack old.tracker) (tracked_number first n)) (sym c.is) ∙ e)) [
+            | inl before ↦ inl before
+            | inr same ↦ inr (record { has = inl same; piece = c.piece; at = ap (λ (k : ℕ). at_place k history.log) same ∙ c.at })
+          ]
+
       -- nothing new is of a quiet stream
       loud : is_new_tsn arrival.tsn old.tracker ≡ true → quiet arrival.chunk.stream ≡ false
       loud is = loud_by quiet arrival.chunk.stream (λ silent. (let o = over arrival.chunk.stream silent in
@@ -252,19 +282,21 @@ module _ (watch : ℕ → Watch) (queued : List Message) (history : History) (fi
       go true is adds =
           added offset arrival.tsn arrival.chunk old.tracker now old.reassembly new.reassembly
           (carries_current history first old.tracker.cumulative past offset arrival.tsn arrival.chunk (new_beyond first (length history.log) offset r.taken old.tracker f.small f.few below r.tracks (by_offset is)) c) r tracks
-          ((new_is_new first (length history.log) offset arrival.immediate_ack r.taken old.tracker f.small f.few below r.tracks).1 (by_offset is)) (loud is) counted exact adds
+          ((new_is_new first (length history.log) offset arrival.immediate_ack r.taken old.tracker f.small f.few below r.tracks).1 (by_offset is)) (loud is) counted exact up fresh adds
       go false is adds =
           subst (λ (s : ReassemblyState). HasReceivedInOrder watch (sent_messages queued history) quiet first read now s) (sym adds)
           (tracked_on watch queued history quiet first read old.tracker now old.reassembly r (tracks_fewer first (length history.log) (offset ∷ r.taken) r.taken now (λ k h. inr h) tracks)
           (λ small. subst (λ (t : ℕ). (k : ℕ) → IsKnownTsn watch history k → has_received (tracker_after_data t arrival.immediate_ack old.tracker) (tracked_number first k) ≡ true → HasEntry k r.taken) (sym c.is)
-          (known_exact first (length history.log) offset arrival.immediate_ack old.tracker r.taken f.small f.few below r.tracks (IsKnownTsn watch history) (r.exact small) (subst (λ (t : ℕ). is_new_tsn t old.tracker ≡ false) c.is is))))
+          (known_exact first (length history.log) offset arrival.immediate_ack old.tracker r.taken f.small f.few below r.tracks (IsKnownTsn watch history) (r.exact small) (subst (λ (t : ℕ). is_new_tsn t old.tracker ≡ false) c.is is))) up
+          (λ small n e. inl (known_before first (length history.log) offset arrival.immediate_ack r.taken old.tracker f.small f.few below r.tracks (subst (λ (t : ℕ). is_new_tsn t old.tracker ≡ false) c.is is) n
+          (ap (λ (t : ℕ). has_received (tracker_after_data t arrival.immediate_ack old.tracker) (tracked_number first n)) (sym c.is) ∙ e))))
 
-  same_transfer : (old new : Transfer) → new ≡ old → HasReceivedInOrder watch (sent_messages queued history) quiet first read old.tracker old.reassembly → HasReceivedInOrder watch (sent_messages queued history) quiet first read new.tracker new.reassembly
+  pub same_transfer : (old new : Transfer) → new ≡ old → HasReceivedInOrder watch (sent_messages queued history) quiet first read old.tracker old.reassembly → HasReceivedInOrder watch (sent_messages queued history) quiet first read new.tracker new.reassembly
   same_transfer old new same r = subst (λ (t : Transfer). HasReceivedInOrder watch (sent_messages queued history) quiet first read t.tracker t.reassembly) (sym same) r
 
   dropped_in_order : (b : Bool) (old new : Transfer) → new ≡ dropping b old → HasReceivedInOrder watch (sent_messages queued history) quiet first read old.tracker old.reassembly → HasReceivedInOrder watch (sent_messages queued history) quiet first read new.tracker new.reassembly
   dropped_in_order true old new same r =
-      same_transfer (dropping true old) new same (tracked_on watch queued history quiet first read old.tracker (delay_over old.tracker) old.reassembly r (delayed_tracks first (length history.log) r.taken old.tracker r.tracks) r.exact)
+      same_transfer (dropping true old) new same (tracked_on watch queued history quiet first read old.tracker (delay_over old.tracker) old.reassembly r (delayed_tracks first (length history.log) r.taken old.tracker r.tracks) r.exact (omega arith) (λ small n e. inl e))
   dropped_in_order false old new same r = same_transfer old new same r
 
   pub received_in_order : (offset : ℕ) (arrival : Arrival) (old new : Transfer) → Carries history.log first offset arrival.tsn arrival.chunk → OthersArePast history first old.tracker.cumulative
@@ -275,115 +307,3 @@ module _ (watch : ℕ → Watch) (queued : List Message) (history : History) (fi
       go : (b : Bool) → (has_room arrival.tsn old && is_valid_tsn old.tracker.cumulative arrival.tsn) ≡ b → ReceivesIfRoom b arrival old new → HasReceivedInOrder watch (sent_messages queued history) quiet first read new.tracker new.reassembly
       go true e takes = taken_in_order offset arrival old new c past over r (λ small. counted small (both (has_room arrival.tsn old) (is_valid_tsn old.tracker.cumulative arrival.tsn) e).0) takes
       go false e same = dropped_in_order (old.tracker.follows_rfc && is_valid_tsn old.tracker.cumulative arrival.tsn) old new same r
-
-  -- ---- a FORWARD-TSN
-
-  not_passed : (tsn : ℕ) (tracker : TrackerState) → is_forward tracker.cumulative tsn ≡ false → after_forward tsn tracker ≡ delay_over tracker
-  not_passed tsn tracker is = subst (λ (c : Bool). (if c then moved_forward tsn tracker else delay_over tracker) ≡ delay_over tracker) (sym is) refl
-
-  delayed : (tsn : ℕ) (tracker : TrackerState) (old new : ReassemblyState) → is_forward tracker.cumulative tsn ≡ false → new ≡ old → HasReceivedInOrder watch (sent_messages queued history) quiet first read tracker old
-      → HasReceivedInOrder watch (sent_messages queued history) quiet first read (after_forward tsn tracker) new
-  delayed tsn tracker old new is same r =
-      subst (λ (s : ReassemblyState). HasReceivedInOrder watch (sent_messages queued history) quiet first read (after_forward tsn tracker) s) (sym same)
-      (tracked_on watch queued history quiet first read tracker (after_forward tsn tracker) old r
-      (subst (λ (k : TrackerState). Tracks first (length history.log) r.taken k) (sym (not_passed tsn tracker is)) (delayed_tracks first (length history.log) r.taken tracker r.tracks))
-      (λ small k known e. r.exact small k known (ap (λ (n : TrackerState). has_received n (tracked_number first k)) (sym (not_passed tsn tracker is)) ∙ e)))
-
-  skipped_in_order : (tsn : ℕ) (entries : List SkippedTo) (tracker now : TrackerState) (old new : ReassemblyState) → SkipsTo history first tsn entries → NoneIsQuiet quiet entries → (r : HasReceivedInOrder watch (sent_messages queued history) quiet first read tracker old)
-      → Tracks first (length history.log) r.taken now → (old.max_size ≤ 2 ^ 63 → (k : ℕ) → IsKnownTsn watch history k → has_received now (tracked_number first k) ≡ true → HasEntry k r.taken)
-      → SkipsData tsn entries old new → HasReceivedInOrder watch (sent_messages queued history) quiet first read now new
-  skipped_in_order tsn entries tracker now old new to loud r tracks exact skips = go (is_forward_deferred tsn old.deferral) refl
-    where
-      named : AreNamed history entries
-      named = each_named history first (to.tsn_is.offset + 1) entries to.names
-
-      left : new.max_size ≡ old.max_size → (holds : ReassemblesInOrder watch (sent_messages queued history) quiet first r.got read new.incoming) → DefersData history first r.later (waiting_of new.deferral)
-          → HasReceivedInOrder watch (sent_messages queued history) quiet first read now new
-      left window holds defers =
-          record {
-            taken = r.taken;
-            got = r.got;
-            later = r.later;
-            tracks = tracks;
-            got_taken = r.got_taken;
-            later_taken = r.later_taken;
-            either = r.either;
-            exact = λ small. exact (omega (arith, small, window));
-            apart = r.apart;
-            distinct = r.distinct;
-            holds = holds;
-            defers = defers;
-          }
-
-      go : (b : Bool) → is_forward_deferred tsn old.deferral ≡ b → HasReceivedInOrder watch (sent_messages queued history) quiet first read now new
-      go true is =
-          let (waits, same, far) = deferred_by tsn old.deferral is in
-          let beside = skips.deferred is waits same in
-          let other : SkippedTo → Bool = λ entry. not (names_stream waits.streams (skipped_stream entry)) in
-          left beside.window
-          (forward_in_order queued history first cut told f quiet read watch r.got tsn (entries_beside waits.streams entries) old.incoming new.incoming to.tsn_is (all_left (IsNamedEntry history) other entries named)
-          (all_left (λ entry. quiet (skipped_stream entry) ≡ false) other entries loud) r.holds beside.incoming)
-          (subst (λ (d : Option DeferralModel). DefersData history first r.later (waiting_of d)) (sym beside.deferral) (subst (λ (d : Option DeferralModel). DefersData history first r.later (waiting_of d)) same r.defers))
-      go false is =
-          let moved = skips.moved is in
-          left moved.window (forward_in_order queued history first cut told f quiet read watch r.got tsn entries old.incoming new.incoming to.tsn_is named loud r.holds moved.incoming)
-          (subst (λ (d : Option DeferralModel). DefersData history first r.later (waiting_of d)) (sym moved.deferral) r.defers)
-
-  gone_in_order : (tsn : ℕ) (entries : List SkippedTo) (old new : Transfer) → (t : IsTsn history.log first tsn) → SkipAll history (t.offset + 1) entries → AreOfKind true history.log → OthersArePast history first old.tracker.cumulative
-      → QuietAreOver history quiet first old.tracker.cumulative → HasReceivedInOrder watch (sent_messages queued history) quiet first read old.tracker old.reassembly → ((k : ℕ) → IsKnownTsn watch history k → k < t.offset + 1 → tracked_number first k ≤ old.tracker.cumulative)
-      → GoesForward tsn entries old new → HasReceivedInOrder watch (sent_messages queued history) quiet first read new.tracker new.reassembly
-  gone_in_order tsn entries old new t skip kinds past over r known goes =
-      subst (λ (k : TrackerState). HasReceivedInOrder watch (sent_messages queued history) quiet first read k new.reassembly) (sym (ap (λ (k : Transfer). k.tracker) goes.rest)) (go (is_forward old.tracker.cumulative tsn) refl goes.reassembly)
-    where
-      by_offset : is_forward old.tracker.cumulative tsn ≡ true → is_forward old.tracker.cumulative ((first + t.offset) % 2 ^ 32) ≡ true
-      by_offset is = subst (λ (n : ℕ). is_forward old.tracker.cumulative n ≡ true) t.is is
-
-      passed : is_forward old.tracker.cumulative tsn ≡ true → Tracks first (length history.log) r.taken (after_forward tsn old.tracker)
-      passed is =
-          subst (λ (n : ℕ). Tracks first (length history.log) r.taken (after_forward n old.tracker)) (sym t.is)
-          (passing_keeps first (length history.log) t.offset r.taken old.tracker f.small f.few t.below r.tracks (by_offset is))
-
-      -- what is passed was received, if it has no limits
-      exact : is_forward old.tracker.cumulative tsn ≡ true → old.reassembly.max_size ≤ 2 ^ 63 → (k : ℕ) → IsKnownTsn watch history k → has_received (after_forward tsn old.tracker) (tracked_number first k) ≡ true → HasEntry k r.taken
-      exact is small k sure e =
-          elim (passed_either first (length history.log) t.offset r.taken old.tracker f.small f.few t.below r.tracks (by_offset is) k (ap (λ (n : ℕ). has_received (after_forward n old.tracker) (tracked_number first k)) (sym t.is) ∙ e)) [
-            | inl before ↦ r.exact small k sure before
-            | inr up ↦ r.exact small k sure (up_to old.tracker.cumulative (tracked_number first k) old.tracker.ranges (known k sure up))
-          ]
-
-      -- nothing is skipped of a quiet stream
-      loud : is_forward old.tracker.cumulative tsn ≡ true → NoneIsQuiet quiet entries
-      loud is =
-          loud_entries quiet entries
-          (λ id silent. (let o = over id silent in
-          all_skip_others history (t.offset + 1) id o.mark kinds o.has o.names o.below (forward_behind first (length history.log) t.offset o.mark.bound r.taken old.tracker f.small f.few t.below r.tracks o.passed (by_offset is)) entries skip))
-
-      go : (b : Bool) → is_forward old.tracker.cumulative tsn ≡ b → SkipsIfMoved b tsn entries old.reassembly new.reassembly → HasReceivedInOrder watch (sent_messages queued history) quiet first read (after_forward tsn old.tracker) new.reassembly
-      go true is skips =
-          let to : SkipsTo history first tsn entries =
-          skips_to history first old.tracker.cumulative past tsn entries t (forward_beyond first (length history.log) t.offset r.taken old.tracker f.small f.few t.below r.tracks (by_offset is)) skip in
-          skipped_in_order tsn entries old.tracker (after_forward tsn old.tracker) old.reassembly new.reassembly to (loud is) r (passed is) (exact is) skips
-      go false is same = delayed tsn old.tracker old.reassembly new.reassembly is same r
-
-  pub forwarded_in_order : (tsn : ℕ) (entries : List SkippedTo) (old new : Transfer) → (t : IsTsn history.log first tsn) → SkipAll history (t.offset + 1) entries → AreOfKind true history.log → OthersArePast history first old.tracker.cumulative
-      → QuietAreOver history quiet first old.tracker.cumulative → HasReceivedInOrder watch (sent_messages queued history) quiet first read old.tracker old.reassembly → ((k : ℕ) → IsKnownTsn watch history k → k < t.offset + 1 → tracked_number first k ≤ old.tracker.cumulative)
-      → MovesForward tsn entries old new → HasReceivedInOrder watch (sent_messages queued history) quiet first read new.tracker new.reassembly
-  forwarded_in_order tsn entries old new t skip kinds past over r known moves = go (is_valid_tsn old.tracker.cumulative tsn) moves
-    where
-      go : (b : Bool) → MovesIfForward b tsn entries old new → HasReceivedInOrder watch (sent_messages queued history) quiet first read new.tracker new.reassembly
-      go true goes = gone_in_order tsn entries old new t skip kinds past over r known goes
-      go false same = same_transfer old new same r
-
-  -- none is passed
-  pub nothing_in_order : (tsn : ℕ) (entries : List SkippedTo) (old new : Transfer) → tsn ≡ (first + 0 + (2 ^ 32 - 1)) % 2 ^ 32
-      → HasReceivedInOrder watch (sent_messages queued history) quiet first read old.tracker old.reassembly → MovesForward tsn entries old new → HasReceivedInOrder watch (sent_messages queued history) quiet first read new.tracker new.reassembly
-  nothing_in_order tsn entries old new is r moves = go (is_valid_tsn old.tracker.cumulative tsn) moves
-    where
-      none : is_forward old.tracker.cumulative tsn ≡ false
-      none = nothing_passed first (length history.log) old.tracker.cumulative tsn f.small f.few r.tracks.reached r.tracks.started is
-
-      go : (b : Bool) → MovesIfForward b tsn entries old new → HasReceivedInOrder watch (sent_messages queued history) quiet first read new.tracker new.reassembly
-      go false same = same_transfer old new same r
-      go true goes =
-          subst (λ (k : TrackerState). HasReceivedInOrder watch (sent_messages queued history) quiet first read k new.reassembly) (sym (ap (λ (k : Transfer). k.tracker) goes.rest))
-          (delayed tsn old.tracker old.reassembly new.reassembly none (subst (λ (c : Bool). SkipsIfMoved c tsn entries old.reassembly new.reassembly) none goes.reassembly) r)

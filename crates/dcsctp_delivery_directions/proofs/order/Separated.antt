@@ -52,33 +52,33 @@ module _ (queued : List Message) (id : ℕ) where
   more_separate (suc index) bound (p ∷ all) more low each are = (are.0, more_separate index bound all more (omega (arith, low)) each are.1)
 
   -- messages of other streams
-  pub separated_others : (asks : ℕ → Bool) (cuts : List Cut) (all more : List ℕ) → ((place : ℕ) → HasEntry place more → IsMessageOn queued id place → ⊥) → AreSeparated asks queued id cuts all → AreSeparated asks queued id cuts (all ++ more)
-  separated_others asks cuts all more none are cut has =
+  pub separated_others : (knows : Bool) (asks : ℕ → Bool) (cuts : List Cut) (all more : List ℕ) → ((place : ℕ) → HasEntry place more → IsMessageOn queued id place → ⊥) → AreSeparated knows asks queued id cuts all → AreSeparated knows asks queued id cuts (all ++ more)
+  separated_others knows asks cuts all more none are cut has =
       let s = are cut has in
       record {
         within = (let low = s.within in omega (arith, low, length-append all more));
         separates = others_separate cut.index cut.place all more none s.separates;
-        no_gap = λ earlier later h on on' less below one free. elim (has_either later all more h) [
-          | inl old ↦ has_left earlier all more (s.no_gap earlier later old on on' less below one free)
+        no_gap = λ earlier later h on on' spared less below one free. elim (has_either later all more h) [
+          | inl old ↦ has_left earlier all more (s.no_gap earlier later old on on' spared less below one free)
           | inr new ↦ absurd (none later new (record { message = on.message; at = on.at; stream = on.stream }))
         ];
         before = s.before;
-        all = λ whole free place on below one. taken_more place cut.index all more s.within (s.all whole free place on below one);
+        all = λ whole place on free below one. taken_more place cut.index all more s.within (s.all whole place on free below one);
       }
 
   -- and such as were queued since
-  pub separated_more : (asks : ℕ → Bool) (cuts : List Cut) (all more : List ℕ) → ((place : ℕ) → HasEntry place more → (cut : Cut) → HasEntry cut cuts → cut.place ≤ place) → AreSeparated asks queued id cuts all → AreSeparated asks queued id cuts (all ++ more)
-  separated_more asks cuts all more each are cut has =
+  pub separated_more : (knows : Bool) (asks : ℕ → Bool) (cuts : List Cut) (all more : List ℕ) → ((place : ℕ) → HasEntry place more → (cut : Cut) → HasEntry cut cuts → cut.place ≤ place) → AreSeparated knows asks queued id cuts all → AreSeparated knows asks queued id cuts (all ++ more)
+  separated_more knows asks cuts all more each are cut has =
       let s = are cut has in
       record {
         within = (let low = s.within in omega (arith, low, length-append all more));
         separates = more_separate cut.index cut.place all more s.within (λ place h. each place h cut has) s.separates;
-        no_gap = λ earlier later h on on' less below one free. elim (has_either later all more h) [
-          | inl old ↦ has_left earlier all more (s.no_gap earlier later old on on' less below one free)
+        no_gap = λ earlier later h on on' spared less below one free. elim (has_either later all more h) [
+          | inl old ↦ has_left earlier all more (s.no_gap earlier later old on on' spared less below one free)
           | inr new ↦ absurd (let up = each later new cut has in omega (arith, up, below))
         ];
         before = s.before;
-        all = λ whole free place on below one. taken_more place cut.index all more s.within (s.all whole free place on below one);
+        all = λ whole place on free below one. taken_more place cut.index all more s.within (s.all whole place on free below one);
       }
 
   -- a reset that is performed when all of them were queued before it was asked for
@@ -109,22 +109,21 @@ abbrev pub ordered_before : (queued more : List Message) (id earlier later : ℕ
 ordered_before queued more id earlier later less was on =
     record { message = on.message; at = at_before more queued earlier on.message (let below = at_below later was.message queued was.at in omega (arith, below, less)) on.at; stream = on.stream; ordered = on.ordered }
 
-pub separated_queued : (asks : ℕ → Bool) (queued more : List Message) (id : ℕ) (cuts : List Cut) (places : List ℕ) → ((place : ℕ) → HasEntry place places → IsMessageOn (more ++ queued) id place → IsMessageOn queued id place) → AreSeparated asks queued id cuts places
-    → AreSeparated asks (more ++ queued) id cuts places
-separated_queued asks queued more id cuts places so are cut has =
+pub separated_queued : (knows : Bool) (asks : ℕ → Bool) (queued more : List Message) (id : ℕ) (cuts : List Cut) (places : List ℕ) → ((place : ℕ) → HasEntry place places → IsMessageOn (more ++ queued) id place → IsMessageOn queued id place) → AreSeparated knows asks queued id cuts places
+    → AreSeparated knows asks (more ++ queued) id cuts places
+separated_queued knows asks queued more id cuts places so are cut has =
     let s = are cut has in
     record {
       within = s.within;
       separates = queued_separate queued (more ++ queued) id cut.index cut.place places so s.separates;
-      no_gap = λ earlier later h on on' less below one free. (
+      no_gap = λ earlier later h on on' spared less below one free. (
           let was = so later h (record { message = on.message; at = on.at; stream = on.stream }) in
-          s.no_gap earlier later h (ordered_was later was on) (ordered_before queued more id earlier later less was on') less below one
-          (λ place from to mine. free place from to (record { message = mine.message; at = at_more more queued place mine.message mine.at; stream = mine.stream; ordered = mine.ordered }))
+          s.no_gap earlier later h (ordered_was later was on) (ordered_before queued more id earlier later less was on') spared less below one
+          (λ unknown place from to mine. free unknown place from to (record { message = mine.message; at = at_more more queued place mine.message mine.at; stream = mine.stream; ordered = mine.ordered }))
           );
       before = (let low = s.before in omega (arith, low, length-append more queued));
-      all = λ whole free place on below one. s.all whole
-          (λ other from to mine. free other from to (record { message = mine.message; at = at_more more queued other mine.message mine.at; stream = mine.stream; ordered = mine.ordered })) place
-          (record { message = on.message; at = at_before more queued place on.message (let low = s.before in omega (arith, below, low)) on.at; stream = on.stream; ordered = on.ordered }) below one;
+      all = λ whole place on free below one. s.all whole place
+          (record { message = on.message; at = at_before more queued place on.message (let low = s.before in omega (arith, below, low)) on.at; stream = on.stream; ordered = on.ordered }) free below one;
     }
   where
     ordered_was : (later : ℕ) → IsMessageOn queued id later → IsOrderedOn (more ++ queued) id later → IsOrderedOn queued id later

@@ -15,6 +15,7 @@ use Rattle.dcsctp_spec_lemmas.specs.spec.endpoint.BegunResets.{BegunReset}
 use Rattle.dcsctp_spec_lemmas.specs.spec.endpoint.TransferMoves.{ReceivesData, MovesForward, has_room}
 use Rattle.dcsctp_delivery_directions.specs.sending.Places.{HasEntry, at_place}
 use Rattle.dcsctp_delivery_directions.specs.sending.Flushes.{IsData, IsInterleaved, IsForward, IsPassed, PassesAcknowledged}
+use Rattle.dcsctp_delivery_directions.specs.sending.Naming.{IsOfPiece}
 use Rattle.dcsctp_delivery_directions.specs.sending.Queueing.{message_of, floors_raised}
 use Rattle.dcsctp_delivery_directions.specs.receiving.Clear.{IsClear, IsOver}
 use Rattle.dcsctp_delivery_directions.specs.receiving.Ready.{AreDistinct, SkipAll}
@@ -32,13 +33,17 @@ use Rattle.dcsctp_delivery_directions.proofs.directions.Receiving.{known_log, kn
 use Rattle.dcsctp_delivery_directions.proofs.directions.Standing.{Arrived, Stands, content_said, packet_said}
 use Rattle.dcsctp_delivery_directions.specs.order.Reading.{CountsFromZero, Watch}
 use Rattle.dcsctp_delivery_directions.specs.order.Epochs.{SendsEpochsInTurn}
-use Rattle.dcsctp_delivery_directions.specs.order.Received.{none_quiet, HasReceivedInOrder}
+use Rattle.dcsctp_delivery_directions.specs.order.Received.{none_quiet, HasReceivedInOrder, IsLastAssigned, IsNamedWaiting}
+use Rattle.dcsctp_delivery_directions.proofs.order.Forwarding.{HasSkip}
+use Rattle.dcsctp_delivery_directions.proofs.order.ForwardEach.{forward_each}
+use Rattle.dcsctp_delivery_directions.proofs.receiving.Tracked.{up_to}
 use Rattle.dcsctp_delivery_directions.proofs.order.Follows.{counts_from_zero}
 use Rattle.dcsctp_delivery_directions.proofs.order.Quiet.{AreSilent, Arrives, arrives_later, performing_arrives}
 use Rattle.dcsctp_delivery_directions.proofs.order.Raised.{none_current_now, raised_in_order}
-use Rattle.dcsctp_delivery_directions.proofs.order.Received.{tracked_in_order, deferring_in_order, received_in_order, forwarded_in_order, nothing_in_order}
+use Rattle.dcsctp_delivery_directions.proofs.order.Received.{tracked_in_order, deferring_in_order, received_in_order}
+use Rattle.dcsctp_delivery_directions.proofs.order.Forwarded.{forwarded_in_order, nothing_in_order}
 use Rattle.dcsctp_delivery_directions.proofs.order.Taken.{takes_in_order}
-use Rattle.dcsctp_delivery_directions.specs.sending.Log.{sent_messages, Message, Fits}
+use Rattle.dcsctp_delivery_directions.specs.sending.Log.{sent_messages, Message, Piece, Fits}
 use Rattle.dcsctp_delivery_directions.specs.sending.Numbers.{CountsByKind, AreFloorsAtZero, is_handed_out, stream_named}
 use Rattle.dcsctp_delivery_directions.proofs.sending.Places.{at_cases}
 use Rattle.std.specs.List.{AllByRecursion}
@@ -66,7 +71,8 @@ module _ (watch : ℕ → Watch) (first : ℕ) (old : Direction) (small : first 
 
   -- What is acknowledged the receiver has reached, and its window is small, if that is to be known.
   abbrev Covers : Type 0
-  Covers = (id : ℕ) → (watch id).knows_all ≡ true → ((first + (2 ^ 32 - 1)) % 2 ^ 32 + old.acknowledged ≤ old.tracker.cumulative) × (old.reassembly.max_size ≤ 2 ^ 63)
+  Covers = (id : ℕ) → (watch id).knows_all ≡ true
+      → ((first + (2 ^ 32 - 1)) % 2 ^ 32 + old.acknowledged ≤ old.tracker.cumulative) × (old.reassembly.max_size ≤ 2 ^ 63) × IsLastAssigned s.history first old.reassembly.deferral × IsNamedWaiting old.reassembly.deferral
 
   -- ---- what is received
 
@@ -111,23 +117,38 @@ module _ (watch : ℕ → Watch) (first : ℕ) (old : Direction) (small : first 
         (received_grows arrival theirs new does)
         (λ id over clear. clear_through_data old.queued s.history first id arrived.places offset arrival theirs new few whole over carries clear does)
 
-    skips_arrive : (tsn : ℕ) (entries : List SkippedTo) → (passed : IsPassed s.history.log first tsn) → PassesAcknowledged s.history.log old.acknowledged passed.passed → SkipAll s.history passed.passed entries → MovesForward tsn entries theirs new → ArrivesWith new.tracker new.reassembly
-    skips_arrive tsn entries passed reliable skip does =
-        arrived_so (go passed.passed passed.below passed.is reliable skip) (forward_grows tsn entries theirs new does)
+    skips_arrive : (tsn : ℕ) (entries : List SkippedTo) → (passed : IsPassed s.history.log first tsn) → PassesAcknowledged s.history.log old.acknowledged passed.passed
+        → ((n : ℕ) (f : Piece) → IsOfPiece s.history.log f n → n < passed.passed → (n < old.acknowledged) ⊎ HasSkip f.message.stream f.message.is_unordered entries) → SkipAll s.history passed.passed entries → MovesForward tsn entries theirs new → ArrivesWith new.tracker new.reassembly
+    skips_arrive tsn entries passed reliable each skip does =
+        arrived_so (go passed.passed passed.below passed.is reliable each skip) (forward_grows tsn entries theirs new does)
         (clears first old small s theirs new same same' tsn entries does passed.passed passed.below passed.is skip little arrived (known_kinds first old small s interleaved))
       where
-        go : (k : ℕ) → k ≤ length s.history.log → tsn ≡ (first + k + (2 ^ 32 - 1)) % 2 ^ 32 → PassesAcknowledged s.history.log old.acknowledged k → SkipAll s.history k entries → HasReceivedInOrder watch (sent_messages old.queued s.history) before.quiet first before.places new.tracker new.reassembly
-        go zero below is reliable' skip =
+        go : (k : ℕ) → k ≤ length s.history.log → tsn ≡ (first + k + (2 ^ 32 - 1)) % 2 ^ 32 → PassesAcknowledged s.history.log old.acknowledged k
+            → ((n : ℕ) (f : Piece) → IsOfPiece s.history.log f n → n < k → (n < old.acknowledged) ⊎ HasSkip f.message.stream f.message.is_unordered entries) → SkipAll s.history k entries → HasReceivedInOrder watch (sent_messages old.queued s.history) before.quiet first before.places new.tracker new.reassembly
+        go zero below is reliable' each' skip =
             nothing_in_order watch old.queued s.history first s.queues.cut (known_log first old small s little) (known_few first old small s little) before.quiet before.places tsn entries theirs new is before.received does
-        go (suc k) below is reliable' skip =
+        go (suc k) below is reliable' each' skip =
             forwarded_in_order watch old.queued s.history first s.queues.cut (known_log first old small s little) (known_few first old small s little) before.quiet before.places tsn entries theirs new
             (record { offset = k; below = omega (arith, below); is = is ∙ omega arith }) (subst (λ (j : ℕ). SkipAll s.history j entries) (omega arith) skip) (known_kinds first old small s interleaved) whole.old
             (λ id is. (before.silent id is).over) before.received
-            (λ j sure up. (
-            let below : j < old.acknowledged = reliable' j sure.piece sure.at (omega (arith, up)) sure.free in
-            let reached = (covered sure.piece.message.stream sure.known).0 in
-            subst (λ (t : TrackerState). tracked_number first j ≤ t.cumulative) (sym same) (omega (arith, below, reached))
-            )) does
+            (record {
+              sized = λ id known. subst (λ (r : ReassemblyState). r.max_size ≤ 2 ^ 63) (sym same') (covered id known).1;
+              near = λ id known. subst (λ (r : ReassemblyState). IsLastAssigned s.history first r.deferral) (sym same') (covered id known).2;
+              named = λ id known. subst (λ (r : ReassemblyState). IsNamedWaiting r.deferral) (sym same') (covered id known).3;
+              beyond = whole.beyond;
+              known = λ j sure up. (
+                  let below : j < old.acknowledged = reliable' j sure.piece sure.at (omega (arith, up)) sure.free in
+                  let reached = (covered sure.piece.message.stream sure.known).0 in
+                  subst (λ (t : TrackerState). tracked_number first j ≤ t.cumulative) (sym same) (omega (arith, below, reached))
+                  );
+              each = λ n g of low known. elim (each' n g of (omega (arith, low))) [
+                | inl below ↦
+                    inl
+                    (let reached = (covered g.message.stream known).0 in
+                    up_to theirs.tracker.cumulative (tracked_number first n) theirs.tracker.ranges (subst (λ (t : TrackerState). tracked_number first n ≤ t.cumulative) (sym same) (omega (arith, below, reached))))
+                | inr skip ↦ inr skip
+              ];
+            }) does
 
   -- ---- each step
 
@@ -159,14 +180,14 @@ module _ (watch : ℕ → Watch) (first : ℕ) (old : Direction) (small : first 
   arrives_on _ (forwards emission tsn streams theirs new was holds same same' does) ends named unended covered a =
       let is : IsForward false s.history first old.acknowledged tsn streams =
       content_said s.history first old.acknowledged (plain (unworked (forward_tsn_chunk tsn streams))) emission.packet.contents (packet_said s.history first old.acknowledged emission old.sent s.packets was) holds in
-      skips_arrive covered a theirs new same same' tsn (named_skips streams) is.passed is.reliable (forward_skips s.history first old.acknowledged tsn streams is) does
+      skips_arrive covered a theirs new same same' tsn (named_skips streams) is.passed is.reliable (λ n f of low. absurd (let clash : true ≡ false = sym (known_kinds first old small s interleaved is.limited.number is.limited.piece is.limited.at) ∙ is.limited.kind in cc)) (forward_skips s.history first old.acknowledged tsn streams is) does
   arrives_on _ (receives_interleaved emission chunk theirs new was holds some same same' does) ends named unended covered a =
       let is : IsInterleaved s.history.log first chunk = content_said s.history first old.acknowledged (plain (unworked (i_data_chunk chunk))) emission.packet.contents (packet_said s.history first old.acknowledged emission old.sent s.packets was) holds in
       data_arrives covered a theirs new same same' is.number (i_data_arrival chunk) (carries_interleaved old.queued s.history.log first chunk s.queues.cut s.fit is some) does
   arrives_on _ (forwards_interleaved emission tsn streams theirs new was holds same same' does) ends named unended covered a =
       let is : IsForward true s.history first old.acknowledged tsn streams =
       content_said s.history first old.acknowledged (plain (unworked (i_forward_tsn_chunk tsn streams))) emission.packet.contents (packet_said s.history first old.acknowledged emission old.sent s.packets was) holds in
-      skips_arrive covered a theirs new same same' tsn (skipped_messages streams) is.passed is.reliable (messages_skipped old.queued s.history first old.acknowledged tsn streams s.queues.cut s.fit is) does
+      skips_arrive covered a theirs new same same' tsn (skipped_messages streams) is.passed is.reliable (forward_each old.queued s.history first old.acknowledged tsn streams s.queues.cut s.fit is) (messages_skipped old.queued s.history first old.acknowledged tsn streams s.queues.cut s.fit is) does
   arrives_on _ (tracks new cumulative ranges) ends named unended covered a =
       record {
         places = a.places;
@@ -206,7 +227,7 @@ module _ (watch : ℕ → Watch) (first : ℕ) (old : Direction) (small : first 
   pub committing_arrives : old.asking.out ≤ 1 → old.asking.is_performed ≡ true → ((id : ℕ) → AreFloorsAtZero s.history.floors id) → (a : ArrivesWith old.tracker old.reassembly) → (cuts : ℕ → List Cut)
       → ((id : ℕ) → is_handed_out (stream_named id old.queues.queue.streams).pause ≡ false → cuts id ≡ (watch id).cuts)
       → ((got : List ℕ) → got ≡ a.received.got → (base : ℕ) (o : IncomingOrdered watch (sent_messages old.queued s.history) a.quiet got base a.places old.reassembly.incoming) (id : ℕ) → is_handed_out (stream_named id old.queues.queue.streams).pause ≡ true
-      → AreSeparated (watch id).asks old.queued id (cuts id) (a.places ++ o.holds.places))
+      → AreSeparated (watch id).knows_all (watch id).asks old.queued id (cuts id) (a.places ++ o.holds.places))
       → Arrives (λ id. record (watch id) { cuts = cuts id }) first (floors_raised old.queues.queue.streams s.history) old.queued old.read old.tracker old.reassembly (queue_committed old.queues.queue).streams
   committing_arrives one performed at_zero a cuts cuts_kept recut =
       let kinds = known_kinds first old small s interleaved in

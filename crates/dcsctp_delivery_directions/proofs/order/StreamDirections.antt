@@ -432,7 +432,7 @@ module _ (direction : Direction) (history : History) (cut : IsLogOfPieces direct
             subst (λ (b : Bool). IsOrderedOrReset (uncut false any_asked id) b (sent_messages direction.queued history) id (places ++ o.holds.places) (o.holds.waits id) (stream_on id direction.reassembly.incoming.streams)) (loud id is) (o.order id (counts id)) in
             no_gap_front direction.queued id places o.holds.places here.order.in_order
             (filled_no_gap direction.queued history id (places ++ o.holds.places) (o.holds.waits id) (stream_on id direction.reassembly.incoming.streams) (counts id) (turns id is) here.order
-            (all_filled (any_asked id) direction.queued history id (places ++ o.holds.places) (stream_on id direction.reassembly.incoming.streams).next (free_on id direction.queued history cut are) here.by_epoch))
+            (all_filled false (any_asked id) direction.queued history id (places ++ o.holds.places) (stream_on id direction.reassembly.incoming.streams).next (free_on id direction.queued history cut are) here.by_epoch))
             );
       }
 

@@ -17,6 +17,7 @@ use Rattle.dcsctp_delivery_directions.specs.order.Received.{ReassemblesInOrder, 
 use Rattle.dcsctp_delivery_directions.proofs.order.Incoming.{growing_in_order, taking_in_order, counts_before}
 use Rattle.dcsctp_delivery_directions.specs.order.Reading.{Watch, ComeSince}
 use Rattle.dcsctp_delivery_directions.proofs.order.HeldParts.{parts_grown}
+use Rattle.dcsctp_delivery_directions.proofs.order.KnowsSkips.{knows_later}
 use Rattle.dcsctp_delivery_directions.proofs.sending.Places.{at_some}
 use Rattle.dcsctp_delivery_directions.specs.receiving.Tracked.{tracked_number}
 
@@ -53,6 +54,7 @@ takes_in_order watch queued history quiet first read tracker reassembly message 
             distinct = r.distinct;
             holds = some_handled base at t.ordered;
             defers = r.defers;
+            skips = record { kept = r.skips.kept; each = r.skips.each };
           };
         }
     go (none_handled none last empty) =
@@ -71,7 +73,7 @@ module _ (queued more : List Message) (history later : History) (goes : GoesOn h
         order = λ id counts. growing_in_order (watch id) queued more history later (quiet id) id (read ++ o.holds.places) (o.holds.waits id) (contents ++ incoming.ready) (stream_on id incoming.streams) within (fresh id) (silent id)
             (both_queued queued read o.holds.places contents incoming.ready were o.holds.were_queued) counts (o.order id);
         within = λ n has. (let below = o.within n has in let longer = goes.longer in omega (arith, below, longer));
-        parts = λ id counts unlimited loud. parts_grown history later got id (stream_on id incoming.streams) within.stays within.floors o.within unlimited (λ before. o.parts id (counts_before queued more history later id within counts) before loud);
+        parts = λ id counts loud. parts_grown history later got id (stream_on id incoming.streams) within.stays within.floors o.within (o.parts id (counts_before queued more history later id within counts) loud);
       }
 
   pub reassembles_more : (watch : ℕ → Watch) → ((id : ℕ) → quiet id ≡ false → ComeSince history id (watch id).cuts → ComeSince later id (watch id).cuts) → ((id : ℕ) → quiet id ≡ true → SendsNoMore history later id) → (first : ℕ) (got : List ℕ) (incoming : IncomingModel) → ReassemblesInOrder watch (sent_messages queued history) quiet first got read incoming → ReassemblesInOrder watch (sent_messages (more ++ queued) later) quiet first got read incoming
@@ -98,4 +100,5 @@ module _ (queued more : List Message) (history later : History) (goes : GoesOn h
         distinct = r.distinct;
         holds = reassembles_more watch fresh silent first r.got reassembly.incoming r.holds;
         defers = defers_more history later goes first r.later (waiting_of reassembly.deferral) r.defers;
+        skips = knows_later watch queued more history later goes within quiet first r.taken r.taken tracker reassembly r.tracks r.skips;
       }

@@ -1,23 +1,26 @@
 -- A stream of which nothing was sent is in order.
 use Rattle.std.proofs.Common.{◌≡◌, ℕ, Bool, true, ◌+◌, ◌^◌, List, [], ◌∷◌, ◌++◌, sym, ◌∙◌, ap, arith, subst, length}
-use Rattle.std.specs.Prelude.{Some}
+use Rattle.std.specs.Prelude.{Option, None, Some}
+use Rattle.std.specs.List.{AllByRecursion}
+use Rattle.dcsctp_spec_lemmas.specs.types.declared.arrivals.SkippedTo.{SkippedTo}
 use Rattle.dcsctp_spec_lemmas.specs.spec.queues.Runs.{WholeModel}
 use Rattle.dcsctp_spec_lemmas.specs.spec.queues.IncomingStreams.{StreamModel}
 use Rattle.dcsctp_spec_lemmas.specs.spec.queues.Incoming.{IncomingModel, stream_on}
-use Rattle.dcsctp_spec_lemmas.specs.spec.queues.Reassembly.{ReassemblyState}
+use Rattle.dcsctp_spec_lemmas.specs.spec.queues.Reassembly.{WaitingSkips, DeferralModel, ReassemblyState, skips_of}
 use Rattle.dcsctp_spec_lemmas.specs.spec.queues.Tracker.{TrackerState}
 use Rattle.dcsctp_delivery_directions.specs.sending.Places.{HasEntry, at_place}
-use Rattle.dcsctp_delivery_directions.specs.sending.Log.{Message, Slot, History, IsLogOfPieces, sent_messages}
+use Rattle.dcsctp_delivery_directions.specs.sending.Log.{Message, Piece, Slot, History, IsLogOfPieces, sent_messages}
 use Rattle.dcsctp_delivery_directions.specs.sending.Numbers.{AreOfKind}
 use Rattle.dcsctp_delivery_directions.specs.receiving.Clear.{Unsent}
 use Rattle.dcsctp_delivery_directions.specs.receiving.Ready.{WaitQueued, IsNear, fresh, near, HoldsIncoming, ordered_base}
-use Rattle.dcsctp_delivery_directions.specs.receiving.Received.{Reassembles, untouched, placed, HasReceived}
+use Rattle.dcsctp_delivery_directions.specs.receiving.Received.{Reassembles, untouched, placed, HasReceived, SkipsLater, SkipsWait, ForwardsWait, kept_entries}
+use Rattle.dcsctp_delivery_directions.specs.sending.Naming.{IsOfPiece, carries, closes}
 use Rattle.dcsctp_delivery_directions.specs.order.Queue.{IsOrderedOn, AreSeparated}
 use Rattle.dcsctp_delivery_directions.specs.order.Order.{AreReadAs}
 use Rattle.dcsctp_delivery_directions.specs.order.Rising.{AscendFrom}
 use Rattle.dcsctp_delivery_directions.specs.order.Reading.{OrderedStream, Watch, uncut}
 use Rattle.dcsctp_delivery_directions.specs.order.Incoming.{IncomingOrdered}
-use Rattle.dcsctp_delivery_directions.specs.order.Received.{none_quiet, ReassemblesInOrder, none_handled, some_handled, HasReceivedInOrder}
+use Rattle.dcsctp_delivery_directions.specs.order.Received.{none_quiet, ReassemblesInOrder, none_handled, some_handled, HasReceivedInOrder, IsKeptSkip}
 use Rattle.dcsctp_delivery_directions.proofs.order.Order.{in_order_none}
 use Rattle.dcsctp_delivery_directions.proofs.order.HeldParts.{parts_none}
 use Rattle.dcsctp_delivery_directions.specs.receiving.Tracked.{tracked_number}
@@ -33,7 +36,7 @@ module _ (queued : List Message) (history : History) (id : ℕ) (cut : IsLogOfPi
   none_wait got (p ∷ waits) [] wait next = absurd wait
   none_wait got (p ∷ waits) (w ∷ waiting) wait next = absurd (none wait.0.offset wait.0.head wait.0.at wait.0.number.0)
 
-  pub unsent_ordered : (watch : Watch) (got : List ℕ) (base : ℕ) (read : List ℕ) (incoming : IncomingModel) (holds : HoldsIncoming queued history got base read incoming) → AreSeparated watch.asks queued id watch.cuts (read ++ holds.places)
+  pub unsent_ordered : (watch : Watch) (got : List ℕ) (base : ℕ) (read : List ℕ) (incoming : IncomingModel) (holds : HoldsIncoming queued history got base read incoming) → AreSeparated watch.knows_all watch.asks queued id watch.cuts (read ++ holds.places)
       → OrderedStream watch queued history id (read ++ holds.places) (holds.waits id) (stream_on id incoming.streams)
   unsent_ordered watch got base read incoming holds separated =
       let here = holds.streams_hold id in
@@ -79,7 +82,7 @@ module _ (queued : List Message) (history : History) (empty : history.log ≡ []
         holds = holds;
         order = λ id counts. unsent_ordered queued history id no_cut (λ n f at. absurd (nowhere n (Some f) at)) (λ n f at on. absurd (nowhere n (Some f) at)) (uncut knows_all asks id) got base read incoming holds (λ cut has. absurd has);
         within = λ n has. absurd (none n has);
-        parts = λ id counts unlimited loud. parts_none history got (ordered_base base) id (stream_on id incoming.streams) (holds.streams_hold id).rows.ordered (λ n f at on. nowhere n (Some f) at);
+        parts = λ id counts loud. parts_none history got (ordered_base base) id (stream_on id incoming.streams) (holds.streams_hold id).rows.ordered (λ n f at on. nowhere n (Some f) at);
       }
 
   pub reassembles_none : (knows_all : Bool) (asks : ℕ → ℕ → Bool) (first : ℕ) (got read : List ℕ) (incoming : IncomingModel) → ((n : ℕ) → HasEntry n got → ⊥) → Reassembles queued history first got read incoming → ReassemblesInOrder (uncut knows_all asks) (sent_messages queued history) none_quiet first got read incoming
@@ -102,8 +105,28 @@ module _ (queued : List Message) (history : History) (empty : history.log ≡ []
         distinct = r.distinct;
         holds = reassembles_none knows_all asks first r.got read reassembly.incoming none_got r.holds;
         defers = r.defers;
+        skips = record { kept = none_kept reassembly.deferral r.forwards; each = λ small id little knows loud counts n f on kind current of. absurd (no_piece n f of) };
       }
     where
+      no_piece : (n : ℕ) (f : Piece) → IsOfPiece history.log f n → ⊥
+      no_piece _ f (carries n at) = nowhere n (Some f) at
+      no_piece _ f (closes n at end) = nowhere n (Some f) at
+
+      none_among : (last_tsn : ℕ) (entries : List SkippedTo) → AllByRecursion (SkipsLater history first last_tsn) entries → AllByRecursion (IsKeptSkip history first tracker.cumulative) entries
+      none_among last_tsn [] all = tt
+      none_among last_tsn (entry ∷ entries) all = absurd
+          (let sizes : length history.log ≡ 0 = ap (λ (l : List Slot). length l) empty in
+          let below = all.0.tsn_is.below in
+          omega (arith, sizes, below))
+
+      by_skips : (last_tsn : ℕ) (skips : Option WaitingSkips) → SkipsWait history first last_tsn skips → AllByRecursion (IsKeptSkip history first tracker.cumulative) (kept_entries skips)
+      by_skips last_tsn None wait = tt
+      by_skips last_tsn (Some skips) wait = none_among last_tsn (kept_entries (Some skips)) wait.1
+
+      none_kept : (d : Option DeferralModel) → ForwardsWait history first d → AllByRecursion (IsKeptSkip history first tracker.cumulative) (kept_entries (skips_of d))
+      none_kept None wait = tt
+      none_kept (Some d) wait = by_skips d.last_tsn d.skips wait
+
       none_taken : (n : ℕ) → HasEntry n r.taken → ⊥
       none_taken n has =
           let sent = r.tracks.sent (tracked_number first n) (r.tracks.received n has) in

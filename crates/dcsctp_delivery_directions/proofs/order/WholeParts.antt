@@ -1,11 +1,12 @@
--- With interleaving not all parts of the next message of a stream were handled: it would be read.
+-- With interleaving not all parts of a message were handled that is neither before the next one of its stream nor waits: it would be
+-- whole.
 use Rattle.std.proofs.Common.{◌≡◌, ◌≢◌, ℕ, zero, suc, true, false, ◌<◌, ◌≤◌, ◌+◌, ◌-◌, ◌%◌, ◌^◌, List, length, sym, ◌∙◌, ap, arith, subst, inl, inr}
 use Rattle.std.specs.Prelude.{◌⊎◌, Some}
 use Rattle.std.proofs.lemmas.Bool.Decides.{eqb_tells, leb_tells}
 use Rattle.std.proofs.lemmas.Bool.{eqb-true, eq-eqb}
 use Rattle.dcsctp_spec_lemmas.specs.spec.queues.Numbers.{fragment_place}
 use Rattle.dcsctp_spec_lemmas.specs.spec.queues.Runs.{RunModel}
-use Rattle.dcsctp_spec_lemmas.specs.spec.queues.IncomingStreams.{StreamModel}
+use Rattle.dcsctp_spec_lemmas.specs.spec.queues.IncomingStreams.{StreamModel, is_number_waiting}
 use Rattle.dcsctp_delivery_directions.specs.sending.Places.{HasEntry, at_place}
 use Rattle.dcsctp_delivery_directions.specs.sending.Log.{Message, Piece, History, IsLogOfPieces, is_end}
 use Rattle.dcsctp_delivery_directions.specs.sending.Numbers.{IsUnambiguous}
@@ -14,13 +15,12 @@ use Rattle.dcsctp_delivery_directions.specs.receiving.Rows.{AreRows, IsPieceRow}
 use Rattle.dcsctp_delivery_directions.specs.receiving.Ready.{IsOn}
 use Rattle.dcsctp_delivery_directions.proofs.receiving.Chaining.{placed_interleaved, lies_behind}
 use Rattle.dcsctp_delivery_directions.proofs.receiving.Reading.{tells_as}
-use Rattle.dcsctp_delivery_directions.specs.order.Rising.{WaitsForNext}
 use Rattle.dcsctp_delivery_directions.specs.order.Runs.{place_after, IsHeldForMessage, SpansMessage}
 use Rattle.dcsctp_delivery_directions.specs.order.Parts.{HoldsParts}
 use Rattle.dcsctp_delivery_directions.specs.order.Reading.{CountsFromZero, IsSince}
 use Rattle.dcsctp_delivery_directions.proofs.order.Held.{one_is_missing}
 use Rattle.dcsctp_delivery_directions.proofs.order.HeldParts.{few_of}
-use Rattle.dcsctp_delivery_directions.proofs.order.PlainMissing.{none_below, row_in}
+use Rattle.dcsctp_delivery_directions.proofs.order.PlainMissing.{row_in}
 
 module _ (queued : List Message) (history : History) (cut : IsLogOfPieces queued history.log) (told : IsUnambiguous history) (id : ℕ) (counts : CountsFromZero history id) (a : ℕ) (h : Piece) (is : IsSince history id a h) (starts : h.start ≡ 0) where
   few : length history.log < 2 ^ 31
@@ -108,12 +108,12 @@ module _ (queued : List Message) (history : History) (cut : IsLogOfPieces queued
   -- ---- its parts would all be held
 
   module _ (ez : ℕ) (z : Piece) (at_end : at_place ez history.log ≡ Some (Some z)) (of : z.place ≡ h.place) (ends : is_end z ≡ true)
-      (got : List ℕ) (base : ℕ → ℕ) (stream : StreamModel) (rows : AreRows history.log got base (IsOn history id) stream.ordered) (parts : HoldsParts history got id stream) (waits : WaitsForNext stream)
-      (counted : h.mid + 2 ^ 32 ≡ history.floors id false + stream.next) (all : (n : ℕ) (g : Piece) → at_place n history.log ≡ Some (Some g) → g.place ≡ h.place → HasEntry n got) where
+      (got : List ℕ) (base : ℕ → ℕ) (stream : StreamModel) (rows : AreRows history.log got base (IsOn history id) stream.ordered) (parts : HoldsParts history got id stream) (number : ℕ) (up : stream.next ≤ number) (unwaited : is_number_waiting number stream.waiting ≡ false)
+      (counted : h.mid + 2 ^ 32 ≡ history.floors id false + number) (all : (n : ℕ) (g : Piece) → at_place n history.log ≡ Some (Some g) → g.place ≡ h.place → HasEntry n got) where
     stop : IsOfIt ez z
     stop = of_it ez z at_end of
 
-    named : IsOn history id h stream.next
+    named : IsOn history id h number
     named = (is.stream, λ kind. (is.ordered, (let floor = counts.floor in omega (arith, counted, floor)), is.current))
 
     since : (n : ℕ) (g : Piece) → at_place n history.log ≡ Some (Some g) → g.place ≡ h.place → (IsSince history id n g) × (g.mid ≡ h.mid)
@@ -152,15 +152,15 @@ module _ (queued : List Message) (history : History) (cut : IsLogOfPieces queued
     record RunOfIt (run : RunModel) : Type 0 where
       row : IsPieceRow history.log got base (IsOn history id) run
       of_head : row.head.place ≡ h.place
-      first_is : run.first ≡ fragment_place stream.next (row.head.fsn % 2 ^ 32)
-      after_is : place_after run ≡ fragment_place stream.next (row.last.fsn % 2 ^ 32) + 1
+      first_is : run.first ≡ fragment_place number (row.head.fsn % 2 ^ 32)
+      after_is : place_after run ≡ fragment_place number (row.last.fsn % 2 ^ 32) + 1
 
-    run_of : (run : RunModel) → HasEntry run stream.ordered → run.number ≡ stream.next → RunOfIt run
+    run_of : (run : RunModel) → HasEntry run stream.ordered → run.number ≡ number → RunOfIt run
     run_of run has its =
         let w = row_in history.log got base (IsOn history id) run stream.ordered rows has in
         let kind = counts.kinds w.offset w.head w.at_head in
-        let at : run.first ≡ fragment_place stream.next (w.head.fsn % 2 ^ 32) = placed_interleaved base w.offset w.head run.number run.first kind w.first ∙ ap (λ (k : ℕ). fragment_place k (w.head.fsn % 2 ^ 32)) its in
-        let one : w.head.place ≡ h.place = tells_as history told false id w.offset a w.head h stream.next w.at_head is.at kind (counts.kinds a h is.at) (subst (λ (k : ℕ). IsOn history id w.head k) its w.number) named in
+        let at : run.first ≡ fragment_place number (w.head.fsn % 2 ^ 32) = placed_interleaved base w.offset w.head run.number run.first kind w.first ∙ ap (λ (k : ℕ). fragment_place k (w.head.fsn % 2 ^ 32)) its in
+        let one : w.head.place ≡ h.place = tells_as history told false id w.offset a w.head h number w.at_head is.at kind (counts.kinds a h is.at) (subst (λ (k : ℕ). IsOn history id w.head k) its w.number) named in
         let head = of_it w.offset w.head w.at_head one in
         let last = of_it w.last_offset w.last w.at_last (w.place ∙ one) in
         let spread = w.spread in
@@ -229,7 +229,7 @@ module _ (queued : List Message) (history : History) (cut : IsLogOfPieces queued
               ])
         ]
 
-    spans : SpansMessage stream.ordered stream.next (fragment_place stream.next 0) (fragment_place stream.next stop.parts)
+    spans : SpansMessage stream.ordered number (fragment_place number 0) (fragment_place number stop.parts)
     unfolding stop
     spans =
         record {
@@ -248,16 +248,16 @@ module _ (queued : List Message) (history : History) (cut : IsLogOfPieces queued
               let at = r.after_is in
               omega (arith, at, fsn, fsn_z)
               );
-          begun = λ run has its low up. (
+          begun = λ run has its low high. (
               let r = run_of run has its in
               let at = r.first_is in
               let one = first_of r.row.offset r.row.head r.row.at_head r.of_head (omega (arith, at, low)) in
               r.row.beginning ∙ eq-eqb r.row.head.start 0 (ap (λ (x : Piece). x.start) one ∙ starts)
               );
-          ended = λ run has its low up. (
+          ended = λ run has its low high. (
               let r = run_of run has its in
               let at = r.after_is in
-              let one = last_at r.row.last_offset r.row.last r.row.at_last (r.row.place ∙ r.of_head) (inr (omega (arith, at, up))) in
+              let one = last_at r.row.last_offset r.row.last r.row.at_last (r.row.place ∙ r.of_head) (inr (omega (arith, at, high))) in
               r.row.end ∙ ap is_end one ∙ ends
               );
         }
@@ -265,14 +265,13 @@ module _ (queued : List Message) (history : History) (cut : IsLogOfPieces queued
     pub not_all_handled : ⊥
     unfolding stop
     not_all_handled =
-        one_is_missing stream.ordered stream.next (fragment_place stream.next 0) (fragment_place stream.next stop.parts) parts.apart spans (omega arith)
-        (λ place low up. (
-        let j : ℕ = place - fragment_place stream.next 0 in
-        let at : fragment_place stream.next (place - fragment_place stream.next 0) ≡ place = omega (arith, low) in
-        let p = each ez ez z (omega arith) at_end of (place - fragment_place stream.next 0) (omega (arith, low, up)) in
+        one_is_missing stream.ordered number (fragment_place number 0) (fragment_place number stop.parts) parts.apart spans (omega arith)
+        (λ place low high. (
+        let at : fragment_place number (place - fragment_place number 0) ≡ place = omega (arith, low) in
+        let p = each ez ez z (omega arith) at_end of (place - fragment_place number 0) (omega (arith, low, high)) in
         let (s, mid) = since p.offset p.piece p.at p.place in
-        elim (parts.held p.offset p.piece s (all p.offset p.piece p.at p.place) stream.next (omega (arith, mid, counted)) (omega arith)) [
-          | inl held ↦ subst (λ (q : ℕ). IsHeldForMessage stream.ordered q stream.next) (ap (λ (k : ℕ). fragment_place stream.next k) p.fsn ∙ at) held
-          | inr w ↦ absurd (let clash : true ≡ false = sym w ∙ none_below (stream.next + 1) stream.next stream.waiting waits (omega arith) in cc)
+        elim (parts.held p.offset p.piece s (all p.offset p.piece p.at p.place) number (omega (arith, mid, counted)) up) [
+          | inl held ↦ subst (λ (q : ℕ). IsHeldForMessage stream.ordered q number) (ap (λ (k : ℕ). fragment_place number k) p.fsn ∙ at) held
+          | inr w ↦ absurd (let clash : true ≡ false = sym w ∙ unwaited in cc)
         ]
         ))

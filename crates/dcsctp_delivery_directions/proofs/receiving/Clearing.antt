@@ -22,7 +22,7 @@ use Rattle.dcsctp_delivery_directions.proofs.receiving.Kept.{kept_later}
 offset_behind : (first offset bound : ℕ) → first < 2 ^ 32 → offset < 2 ^ 31 → bound < 2 ^ 31 → is_tsn_beyond ((first + offset) % 2 ^ 32) ((first + bound + (2 ^ 32 - 1)) % 2 ^ 32) ≡ true → bound ≤ offset
 offset_behind first offset bound small few near beyond = grind (arith, nat_tests, beyond)
 
-behind : (first offset bound tsn last_tsn : ℕ) → first < 2 ^ 32 → offset < 2 ^ 31 → bound < 2 ^ 31 → tsn ≡ (first + offset) % 2 ^ 32 → last_tsn ≡ (first + bound + (2 ^ 32 - 1)) % 2 ^ 32
+pub behind : (first offset bound tsn last_tsn : ℕ) → first < 2 ^ 32 → offset < 2 ^ 31 → bound < 2 ^ 31 → tsn ≡ (first + offset) % 2 ^ 32 → last_tsn ≡ (first + bound + (2 ^ 32 - 1)) % 2 ^ 32
     → is_tsn_beyond tsn last_tsn ≡ true → bound ≤ offset
 behind first offset bound tsn last_tsn small few near is last beyond =
     offset_behind first offset bound small few near

@@ -123,7 +123,7 @@ module _ (history wider : History) (goes : GoesOn history wider) where
   tsn_more first tsn t = record { offset = t.offset; below = omega (arith, t.below, goes.longer); is = t.is }
 
   -- TSNs were assigned before a reset that began later
-  name_more : (passed : ℕ) → passed ≤ length history.log → (entry : SkippedTo) → NamesCurrent history passed entry → NamesCurrent wider passed entry
+  pub name_more : (passed : ℕ) → passed ≤ length history.log → (entry : SkippedTo) → NamesCurrent history passed entry → NamesCurrent wider passed entry
   name_more passed assigned (Ssn id ssn) (s, is) = (record { number = s.number; piece = s.piece; at = goes.stays s.number (Some s.piece) s.at; kind = s.kind }, tt)
   name_more passed assigned (Mid id is_unordered mid) (s, is) = (
     record {
@@ -142,6 +142,12 @@ module _ (history wider : History) (goes : GoesOn history wider) where
         | inr up ↦ omega (arith, assigned, up)
       ];
       limited = s.limited;
+      before = s.before;
+      highest = λ n f at less on kind. (
+          let (slot, was) = at_some n history.log (omega (arith, less, assigned)) in
+          let both : Some slot ≡ Some (Some f) = sym (goes.stays n slot was) ∙ at in
+          s.highest n f (was ∙ both) less on kind
+          );
     },
     goes.current s.number s.piece s.at is,
   )

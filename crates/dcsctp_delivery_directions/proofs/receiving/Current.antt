@@ -53,9 +53,9 @@ module _ (history : History) (first cumulative : ℕ) (old : OthersArePast histo
     ],
   )
 
-  all_named : (offset : ℕ) → cumulative < tracked_number first offset → (entries : List SkippedTo) → SkipAll history (offset + 1) entries → NameAll history (offset + 1) entries
+  pub all_named : (offset : ℕ) → cumulative < tracked_number first offset → (entries : List SkippedTo) → SkipAll history (offset + 1) entries → NameAll history (offset + 1) entries
   all_named offset beyond [] skips = tt
   all_named offset beyond (entry ∷ entries) skips = (named_current offset beyond entry skips.0, all_named offset beyond entries skips.1)
 
-  pub skips_to : (tsn : ℕ) (entries : List SkippedTo) (t : IsTsn history.log first tsn) → cumulative < tracked_number first t.offset → SkipAll history (t.offset + 1) entries → SkipsTo history first tsn entries
+  unfoldable pub skips_to : (tsn : ℕ) (entries : List SkippedTo) (t : IsTsn history.log first tsn) → cumulative < tracked_number first t.offset → SkipAll history (t.offset + 1) entries → SkipsTo history first tsn entries
   skips_to tsn entries t beyond skips = record { tsn_is = t; names = all_named t.offset beyond entries skips }

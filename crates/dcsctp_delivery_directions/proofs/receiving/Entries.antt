@@ -39,11 +39,11 @@ forward_skips history first acknowledged tsn streams f = go f.entries f.is f.nam
 four_read : (n : ℕ) → from_be_bytes w32 (to_be_bytes w32 n) ≡ n % 2 ^ 32
 four_read n = omega arith
 
-bit_read : (b : Bool) → lowest_bit (from_be_bytes w16 (to_be_bytes w16 (t_bit b))) ≡ b
+pub bit_read : (b : Bool) → lowest_bit (from_be_bytes w16 (to_be_bytes w16 (t_bit b))) ≡ b
 bit_read true = refl
 bit_read false = refl
 
-eight_on : (n k j : ℕ) (entry : (ℕ × Bool) × ℕ) (rest : List ℕ) → n ≡ 8 * suc k + j → drop n (entry_bytes true entry ++ rest) ≡ drop (8 * k + j) rest
+pub eight_on : (n k j : ℕ) (entry : (ℕ × Bool) × ℕ) (rest : List ℕ) → n ≡ 8 * suc k + j → drop n (entry_bytes true entry ++ rest) ≡ drop (8 * k + j) rest
 eight_on n k j entry rest is =
     let same : n ≡ suc (suc (suc (suc (suc (suc (suc (suc (8 * k + j)))))))) = omega arith in
     ap (λ (m : ℕ). drop m (entry_bytes true entry ++ rest)) same
@@ -66,6 +66,8 @@ entry_read history passed queued cut fit (entry ∷ entries) names zero below =
       is = four_read entry.1 ∙ e.mid refl;
       within = e.within;
       limited = e.limited;
+      before = e.before;
+      highest = λ n f at less on kind. e.highest refl n f at less (on ∙ from_be_bytes-to_be_bytes_2 entry.0.0 small ∙ e.stream) (kind ∙ bit_read entry.0.1 ∙ e.unordered);
     }
 entry_read history passed queued cut fit (entry ∷ entries) names (suc k) below =
     let rest : List ℕ = flat_map (entry_bytes true) entries in
@@ -74,7 +76,7 @@ entry_read history passed queued cut fit (entry ∷ entries) names (suc k) below
     (subst (λ (l : List ℕ). SkipsEntry history passed (messages_skipped_to (record { stream_id = u16_at (8 * k) rest; is_unordered = lowest_bit (u16_at (8 * k + 2) rest); mid = from_be_bytes w32 (take 4 l) }))) (sym (eight_on (8 * suc k + 4) k 4 entry rest refl))
     (entry_read history passed queued cut fit entries names.1 k (omega arith))))
 
-entries_long : (entries : List ((ℕ × Bool) × ℕ)) → length (flat_map (entry_bytes true) entries) ≡ 8 * length entries
+pub entries_long : (entries : List ((ℕ × Bool) × ℕ)) → length (flat_map (entry_bytes true) entries) ≡ 8 * length entries
 entries_long [] = refl
 entries_long (entry ∷ entries) = omega (arith, length-append (entry_bytes true entry) (flat_map (entry_bytes true) entries), entries_long entries)
 

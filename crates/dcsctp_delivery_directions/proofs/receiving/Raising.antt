@@ -170,10 +170,10 @@ module _ (queued : List Message) (history : History) (streams : List Stream) whe
         current = λ kind. elim (kept c.carries.piece.message.stream) [ inl keep ↦ keep offset c.carries.piece c.carries.at refl (c.current kind) | inr ne ↦ absurd (ne c.carries.stream) ];
       }
 
-  name_keeps : (passed : ℕ) (entry : SkippedTo) → KeptOr (λ id. skipped_stream entry ≢ id) → NamesCurrent history passed entry → NamesCurrent (floors_raised streams history) passed entry
+  pub name_keeps : (passed : ℕ) (entry : SkippedTo) → KeptOr (λ id. skipped_stream entry ≢ id) → NamesCurrent history passed entry → NamesCurrent (floors_raised streams history) passed entry
   name_keeps passed (Ssn id ssn) kept (s, current) = (record { number = s.number; piece = s.piece; at = s.at; kind = s.kind }, tt)
   name_keeps passed (Mid id is_unordered mid) kept (s, current) = (
-    record { number = s.number; piece = s.piece; at = s.at; kind = s.kind; stream = s.stream; unordered = s.unordered; is = s.is; within = s.within; limited = s.limited },
+    record { number = s.number; piece = s.piece; at = s.at; kind = s.kind; stream = s.stream; unordered = s.unordered; is = s.is; within = s.within; limited = s.limited; before = s.before; highest = s.highest },
     elim (kept s.piece.message.stream) [
       | inl keep ↦ keep s.number s.piece s.at refl current
       | inr ne ↦ absurd (ne s.stream)

@@ -166,6 +166,41 @@ passed_either first count offset taken tracker small few below tracks forward k 
     go true known either = inl known
     go false known either = inr (let up : tracked_number first k ≤ number = grind (arith, nat_tests, either) in omega (arith, up, here))
 
+-- A FORWARD-TSN moves it at least to its TSN.
+pub forward_reaches : (first count offset : ℕ) (taken : List ℕ) (tracker : TrackerState) → first < 2 ^ 32 → count < 2 ^ 31 → offset < count → Tracks first count taken tracker
+    → is_forward tracker.cumulative ((first + offset) % 2 ^ 32) ≡ true → tracked_number first offset ≤ (after_forward ((first + offset) % 2 ^ 32) tracker).cumulative
+forward_reaches first count offset taken tracker small few below tracks forward = go (is_forward tracker.cumulative ((first + offset) % 2 ^ 32)) forward
+  where
+    number : ℕ
+    number = nearest_number tracker.cumulative ((first + offset) % 2 ^ 32)
+
+    here : number ≡ tracked_number first offset
+    here = number_is first count offset tracker.cumulative small few below tracks.reached tracks.started
+
+    ahead : tracker.cumulative < number
+    ahead = is_ahead tracker.cumulative ((first + offset) % 2 ^ 32) forward
+
+    moved : tracked_number first offset ≤ (moved_forward ((first + offset) % 2 ^ 32) tracker).cumulative
+    moved =
+        elim (leb_tells (tracked_number first offset) (moved_forward ((first + offset) % 2 ^ 32) tracker).cumulative) [
+          | inl e ↦ e.1
+          | inr e ↦ absurd
+              (let less : (moved_forward ((first + offset) % 2 ^ 32) tracker).cumulative < tracked_number first offset = e.1 in
+              let low : nat_le ((moved_forward ((first + offset) % 2 ^ 32) tracker).cumulative + 1) number ≡ true =
+              elim (leb_tells ((moved_forward ((first + offset) % 2 ^ 32) tracker).cumulative + 1) number) [ inl e' ↦ e'.0 | inr e' ↦ absurd (let no_more = e'.1 in omega (arith, no_more, less, here)) ] in
+              let known : has_received (moved_forward ((first + offset) % 2 ^ 32) tracker) ((moved_forward ((first + offset) % 2 ^ 32) tracker).cumulative + 1) ≡ true =
+              forwarded_members number tracker.cumulative tracker.ranges ahead tracks.beyond ((moved_forward ((first + offset) % 2 ^ 32) tracker).cumulative + 1)
+              ∙ or_fresh (has_received tracker ((moved_forward ((first + offset) % 2 ^ 32) tracker).cumulative + 1)) (nat_le ((moved_forward ((first + offset) % 2 ^ 32) tracker).cumulative + 1) number) low in
+              let missing : has_received (moved_forward ((first + offset) % 2 ^ 32) tracker) ((moved_forward ((first + offset) % 2 ^ 32) tracker).cumulative + 1) ≡ false =
+              all_received (moved_forward ((first + offset) % 2 ^ 32) tracker).cumulative 0 (moved_forward ((first + offset) % 2 ^ 32) tracker).ranges (forwarded_beyond number tracker.cumulative tracker.ranges tracks.beyond) in
+              let clash : true ≡ false = sym known ∙ missing in
+              cc)
+        ]
+
+    go : (b : Bool) → b ≡ true → tracked_number first offset ≤ (if b then moved_forward ((first + offset) % 2 ^ 32) tracker else delay_over tracker).cumulative
+    go true e = moved
+    go false e = absurd (cc)
+
 -- ---- the cumulative number
 
 pub observed_up : (tsn : ℕ) (immediate : Bool) (tracker : TrackerState) → IsBeyond tracker.cumulative tracker.ranges → tracker.cumulative ≤ (tracker_after_data tsn immediate tracker).cumulative

@@ -41,6 +41,7 @@ named_marked history begun ids own part below n =
       mid = n.mid;
       ssn = n.ssn;
       up_to = n.up_to;
+      tail = n.tail;
       limits = n.limits;
     }
 

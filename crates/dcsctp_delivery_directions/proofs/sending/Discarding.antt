@@ -1,5 +1,5 @@
 -- What the send queue drops.
-use Rattle.std.proofs.Common.{◌≡◌, ℕ, true, false, ◌<◌, ◌+◌, ◌^◌, List, ◌∷◌, length, drop, refl, sym, ◌∙◌, ap, arith, subst, inl, inr}
+use Rattle.std.proofs.Common.{◌≡◌, ℕ, true, false, ◌<◌, ◌+◌, ◌-◌, ◌^◌, List, ◌∷◌, length, drop, refl, sym, ◌∙◌, ap, arith, subst, inl, inr}
 use Rattle.std.specs.Prelude.{Option, None, Some, is_some, if◌then◌else◌}
 use Rattle.dcsctp_spec.specs.endpoint.Event.{Event}
 use Rattle.dcsctp_spec.specs.types.declared.sending.UnderWay.{UnderWay}
@@ -11,9 +11,9 @@ use Rattle.dcsctp_delivery_directions.specs.sending.Log.{Message, Piece, newest,
 use Rattle.dcsctp_delivery_directions.specs.sending.Pieces.{WaitingWasQueued, AllQueued, AllBeyond, Ascend, unbegun, Going, IsGoing, HoldsQueued}
 use Rattle.dcsctp_delivery_directions.specs.sending.Numbers.{stream_named, HoldsWhole, NumbersMessages, is_always_whole, RestAtEnds}
 use Rattle.dcsctp_delivery_directions.specs.sending.Weights.{weigh, HasRoomForLog}
-use Rattle.dcsctp_delivery_directions.proofs.sending.Places.{decide}
+use Rattle.dcsctp_delivery_directions.proofs.sending.Places.{decide, at_below, at_stays, at_new}
 use Rattle.dcsctp_delivery_directions.proofs.sending.Weights.{front_weighs, weight_changed, sum_changed}
-use Rattle.dcsctp_delivery_directions.proofs.sending.Newest.{newest_last, is_newest, newest_found}
+use Rattle.dcsctp_delivery_directions.proofs.sending.Newest.{newest_last, newest_lies, is_newest, newest_found, closed_stays}
 use Rattle.dcsctp_delivery_directions.proofs.sending.StreamWeights.{front_queued}
 use Rattle.dcsctp_delivery_directions.proofs.sending.Streams.{queued_drop, ascend_drop, unbegun_rest}
 use Rattle.dcsctp_delivery_directions.proofs.sending.StreamsNamed.{found_at}
@@ -162,14 +162,30 @@ module _ (queued : List Message) (history : History) (old : SendQueueState) (str
             ap (λ (x : Piece). x.place) (sym same) ∙ c.is ∙ of_message)
       ]
 
+  -- One was sent.
+  pub newest_there : 0 < length history.log → (g : Piece) × (at_place (length history.log - 1) history.log ≡ Some (Some g)) × (g.place ≡ message_id)
+  newest_there some =
+      let (g, on, last) = newest_last stream history.log (numbers.whole.newest stream held_so) some in
+      let at = newest_lies history.log g (length history.log - 1) last (omega (arith, some)) in
+      (g, at, newest_named (length history.log - 1) g at (omega (arith, some)))
+
   left_rests : ((n : ℕ) (f : Piece) → at_place n history.log ≡ Some (Some f) → f.place ≡ message_id → f.message.is_limited ≡ true) → RestAtEnds (None ∷ history.log) streams
   left_rests limited id none f newest =
       elim (decide id stream) [
         | inl same ↦
             (let here : newest_on stream history.log ≡ Some f = ap (λ (k : ℕ). newest_on k history.log) (sym same) ∙ newest in
             let found = newest_found stream history.log f here in
-            inr (limited found.number f found.at (newest_dropped f here)))
-        | inr ne ↦ numbers.rests id (ap (λ (s : Stream). s.under_way) (sym (d.one.named id (λ on. ne (on ∙ named.is)))) ∙ none) f newest
+            let below = at_below found.number (Some f) history.log found.at in
+            let (g, on, last) = newest_last stream history.log (numbers.whole.newest stream held_so) (omega (arith, below)) in
+            let up = found.last (length history.log - 1) g (newest_lies history.log g (length history.log - 1) last (omega (arith, below))) (newest_found stream history.log g on).on in
+            inr
+            (record {
+              offset = found.number;
+              at = at_stays found.number None (Some f) history.log found.at;
+              end = ap (λ (k : ℕ). at_place k (None ∷ history.log)) (omega (arith, below, up)) ∙ at_new None history.log;
+              limited = limited found.number f found.at (newest_dropped f here);
+            }))
+        | inr ne ↦ closed_stays None history.log f (numbers.rests id (ap (λ (s : Stream). s.under_way) (sym (d.one.named id (λ on. ne (on ∙ named.is)))) ∙ none) f newest)
       ]
 
   left_numbered : ((n : ℕ) (f : Piece) → at_place n history.log ≡ Some (Some f) → f.place ≡ message_id → f.message.is_limited ≡ true) → NumbersMessages (with_slot None history) left

@@ -15,14 +15,15 @@ use Rattle.dcsctp_delivery_directions.specs.sending.Stages.{SaysSlot, SaysTsn, I
 use Rattle.dcsctp_spec.specs.queues.Sending.{Fragment}
 use Rattle.dcsctp_delivery_directions.specs.sending.Pieces.{CarriesPiece}
 use Rattle.dcsctp_delivery_directions.specs.sending.Flushes.{IsEntry, AreForwardEntries, PassesAcknowledged}
+use Rattle.dcsctp_delivery_directions.proofs.sending.Highest.{highest_of}
 use Rattle.dcsctp_delivery_directions.proofs.sending.Stages.{item_at, item_below}
 
-same_kind : (a b : Bool) → (if a then b else not b) ≡ true → a ≡ b
+pub same_kind : (a b : Bool) → (if a then b else not b) ≡ true → a ≡ b
 same_kind true b e = sym e
 same_kind false true e = absurd (cc)
 same_kind false false e = refl
 
-both : (x y : Bool) → (x && y) ≡ true → (x ≡ true) × (y ≡ true)
+pub both : (x y : Bool) → (x && y) ≡ true → (x ≡ true) × (y ≡ true)
 both true true e = (refl, refl)
 both true false e = absurd (cc)
 both false y e = absurd (cc)
@@ -46,6 +47,7 @@ module _ (history : History) (first : ℕ) where
     unordered : entry.0.1 ≡ item.fragment.is_unordered
     number : entry.1 ≡ skipped_number outstanding.is_interleaved item
     listed : outstanding.is_interleaved ≡ false → entry.0.1 ≡ false
+    last : (k : ℕ) (later : Item) → place < k → k < count → slice_get outstanding.items k ≡ Some later → item.fragment.stream ≡ later.fragment.stream → item.fragment.is_unordered ≡ later.fragment.is_unordered → ⊥
 
   -- No reset of the stream lies between an item of the row and its end, where the row would have ended.
   not_split : (acknowledged count : ℕ) (outstanding : OutstandingState) → Bears history first acknowledged outstanding → count ≤ length outstanding.items → ((place : ℕ) (item : Item) → place < count → slice_get outstanding.items place ≡ Some item → is_row_continued place item ≡ true)
@@ -66,7 +68,7 @@ module _ (history : History) (first : ℕ) where
   ClosesRow acknowledged count outstanding =
       outstanding.is_interleaved ≡ false → history.marks ≡ [] → 0 < count → (slot : Slot) × (at_place (acknowledged + count - 1) history.log ≡ Some slot) × (IsEndSlot slot ⊎ (2 ^ 31 ≤ acknowledged + count + 1))
 
-  last_there : (stream : ℕ) (unordered : Bool) (items : List Item) (place : ℕ) (item : Item) → slice_get items place ≡ Some item → stream ≡ item.fragment.stream → unordered ≡ item.fragment.is_unordered → last_on stream unordered items ≡ None → ⊥
+  pub last_there : (stream : ℕ) (unordered : Bool) (items : List Item) (place : ℕ) (item : Item) → slice_get items place ≡ Some item → stream ≡ item.fragment.stream → unordered ≡ item.fragment.is_unordered → last_on stream unordered items ≡ None → ⊥
   last_there stream unordered [] zero item at same kind none = absurd (cc)
   last_there stream unordered [] (suc place) item at same kind none = absurd (cc)
   last_there stream unordered (i ∷ items) zero item at same kind none = go (last_on stream unordered items) none
@@ -92,7 +94,7 @@ module _ (history : History) (first : ℕ) where
       go (Some x) some e = absurd (cc)
       go None some e = some refl
 
-  in_front : (count place : ℕ) (items : List Item) (item : Item) → place < count → slice_get items place ≡ Some item → slice_get (take count items) place ≡ Some item
+  pub in_front : (count place : ℕ) (items : List Item) (item : Item) → place < count → slice_get items place ≡ Some item → slice_get (take count items) place ≡ Some item
   in_front zero place items item below at = absurd (omega (arith, below))
   in_front (suc count) zero [] item below at = at
   in_front (suc count) (suc place) [] item below at = at
@@ -209,6 +211,8 @@ module _ (history : History) (first : ℕ) where
             record { offset = acknowledged + count - 1; slot = slot; from = omega (arith, inside, up); to = omega (arith, inside); at = at_slot; ends = elim ends [ inl e ↦ inl e | inr e ↦ inr (omega (arith, e)) ] }
             );
         limited = is_limited named;
+        before = (let inside = of.within in let up = named.up_to in omega (arith, inside, up));
+        highest = λ interleaved. highest_of queued history first acknowledged cut outstanding b (λ n f at. kinds n f at ∙ interleaved) count of.place of.item of.at within of.last;
       }
     where
       -- an item of a row was abandoned
@@ -221,25 +225,37 @@ module _ (history : History) (first : ℕ) where
           let one : named.piece.message ≡ is.piece.message = cc in
           ap (λ (m : Message). m.is_limited) one ∙ is.limited
 
+  -- No later item is of the stream.
+  abbrev NoneLater : ℕ → Bool → List Item → ℕ → Type 0
+  NoneLater stream unordered items place = (k : ℕ) (later : Item) → place < k → slice_get items k ≡ Some later → stream ≡ later.fragment.stream → unordered ≡ later.fragment.is_unordered → ⊥
+
   -- the last item of a stream is one of the row
-  found_last : (stream : ℕ) (unordered : Bool) (items : List Item) (item : Item) → last_on stream unordered items ≡ Some item → (place : ℕ) × (slice_get items place ≡ Some item) × (stream ≡ item.fragment.stream) × (unordered ≡ item.fragment.is_unordered)
+  found_last : (stream : ℕ) (unordered : Bool) (items : List Item) (item : Item) → last_on stream unordered items ≡ Some item → (place : ℕ) × (slice_get items place ≡ Some item) × (stream ≡ item.fragment.stream) × (unordered ≡ item.fragment.is_unordered) × NoneLater stream unordered items place
   found_last stream unordered [] item is = absurd (cc)
   found_last stream unordered (first_item ∷ items) item is = go (last_on stream unordered items) refl (λ found. found_last stream unordered items item found) is
     where
-      here : (b : Bool) → is_same_stream stream unordered first_item.fragment.stream first_item.fragment.is_unordered ≡ b → (if b then Some first_item else None) ≡ Some item
-          → (place : ℕ) × (slice_get (first_item ∷ items) place ≡ Some item) × (stream ≡ item.fragment.stream) × (unordered ≡ item.fragment.is_unordered)
-      here true same e =
+      here : last_on stream unordered items ≡ None → (b : Bool) → is_same_stream stream unordered first_item.fragment.stream first_item.fragment.is_unordered ≡ b → (if b then Some first_item else None) ≡ Some item
+          → (place : ℕ) × (slice_get (first_item ∷ items) place ≡ Some item) × (stream ≡ item.fragment.stream) × (unordered ≡ item.fragment.is_unordered) × NoneLater stream unordered (first_item ∷ items) place
+      here none true same e =
           let one : first_item ≡ item = cc in
           let (streams, kinds) = both (stream == first_item.fragment.stream) (if unordered then first_item.fragment.is_unordered else not first_item.fragment.is_unordered) same in
-          (0, e, eqb-true stream first_item.fragment.stream streams ∙ ap (λ (x : Item). x.fragment.stream) one, same_kind unordered first_item.fragment.is_unordered kinds ∙ ap (λ (x : Item). x.fragment.is_unordered) one)
-      here false same e = absurd (cc)
+          (0, e, eqb-true stream first_item.fragment.stream streams ∙ ap (λ (x : Item). x.fragment.stream) one, same_kind unordered first_item.fragment.is_unordered kinds ∙ ap (λ (x : Item). x.fragment.is_unordered) one, λ k later past at on kind. past_first k later past at on kind)
+        where
+          past_first : (k : ℕ) (later : Item) → 0 < k → slice_get (first_item ∷ items) k ≡ Some later → stream ≡ later.fragment.stream → unordered ≡ later.fragment.is_unordered → ⊥
+          past_first zero later past at on kind = absurd (omega (arith, past))
+          past_first (suc k) later past at on kind = last_there stream unordered items k later at on kind none
+      here none false same e = absurd (cc)
 
       go : (found : Option Item) → last_on stream unordered items ≡ found
-          → (last_on stream unordered items ≡ Some item → (place : ℕ) × (slice_get items place ≡ Some item) × (stream ≡ item.fragment.stream) × (unordered ≡ item.fragment.is_unordered))
+          → (last_on stream unordered items ≡ Some item → (place : ℕ) × (slice_get items place ≡ Some item) × (stream ≡ item.fragment.stream) × (unordered ≡ item.fragment.is_unordered) × NoneLater stream unordered items place)
           → option_or found (if is_same_stream stream unordered first_item.fragment.stream first_item.fragment.is_unordered then Some first_item else None) ≡ Some item
-          → (place : ℕ) × (slice_get (first_item ∷ items) place ≡ Some item) × (stream ≡ item.fragment.stream) × (unordered ≡ item.fragment.is_unordered)
-      go None is rest e = here (is_same_stream stream unordered first_item.fragment.stream first_item.fragment.is_unordered) refl e
-      go (Some last) is rest e = (let (place, at, same, kind) = rest (is ∙ e) in (suc place, at, same, kind))
+          → (place : ℕ) × (slice_get (first_item ∷ items) place ≡ Some item) × (stream ≡ item.fragment.stream) × (unordered ≡ item.fragment.is_unordered) × NoneLater stream unordered (first_item ∷ items) place
+      go None is rest e = here is (is_same_stream stream unordered first_item.fragment.stream first_item.fragment.is_unordered) refl e
+      go (Some last) is rest e = (let (place, at, same, kind, none) = rest (is ∙ e) in (suc place, at, same, kind, λ k later past at' on kind'. later_none place none k later past at' on kind'))
+        where
+          later_none : (place : ℕ) → NoneLater stream unordered items place → (k : ℕ) (later : Item) → suc place < k → slice_get (first_item ∷ items) k ≡ Some later → stream ≡ later.fragment.stream → unordered ≡ later.fragment.is_unordered → ⊥
+          later_none place none zero later past at on kind = absurd (omega (arith, past))
+          later_none place none (suc k) later past at on kind = none k later (omega (arith, past)) at on kind
 
   listed_item : (outstanding : OutstandingState) (count : ℕ) (entry : (ℕ × Bool) × ℕ) → Some entry.1 ≡ option_map (skipped_number outstanding.is_interleaved) (last_listed outstanding.is_interleaved entry.0.0 entry.0.1 (take count outstanding.items))
       → OfItem count outstanding entry
@@ -262,8 +278,8 @@ module _ (history : History) (first : ℕ) where
       found : (outstanding.is_interleaved ≡ false → entry.0.1 ≡ false) → (o : Option Item) → last_on entry.0.0 entry.0.1 (take count outstanding.items) ≡ o → Some entry.1 ≡ option_map (skipped_number outstanding.is_interleaved) o → OfItem count outstanding entry
       found listed None e same = absurd (cc)
       found listed (Some item) e same =
-          let (place, at, stream, unordered) = found_last entry.0.0 entry.0.1 (take count outstanding.items) item e in
-          record { place = place; item = item; at = among count place outstanding.items item at; within = before count place outstanding.items item at; stream = stream; unordered = unordered; number = cc; listed = listed }
+          let (place, at, stream, unordered, none) = found_last entry.0.0 entry.0.1 (take count outstanding.items) item e in
+          record { place = place; item = item; at = among count place outstanding.items item at; within = before count place outstanding.items item at; stream = stream; unordered = unordered; number = cc; listed = listed; last = λ k later past low at' on kind. none k later past (in_front count k outstanding.items later low at') (stream ∙ on) (unordered ∙ kind) }
 
       ordered : (a c : Bool) → (a || not c) ≡ true → a ≡ false → c ≡ false
       ordered true c e plain = absurd (cc)

@@ -1,5 +1,5 @@
 -- What was said stays said as more is done in an association.
-use Rattle.std.proofs.Common.{◌≡◌, ℕ, Bool, true, false, ◌≤◌, List, [], ◌∷◌, ◌++◌, length, refl, sym, ◌∙◌, arith, inr, ap, inl, subst}
+use Rattle.std.proofs.Common.{◌≡◌, ℕ, Bool, true, false, ◌≤◌, ◌<◌, ◌+◌, List, [], ◌∷◌, ◌++◌, length, refl, sym, ◌∙◌, arith, inr, ap, inl, subst}
 use Rattle.std.specs.Prelude.{◌⊎◌, Option, None, Some}
 use Rattle.std.proofs.lemmas.List.{length-append}
 use Rattle.dcsctp_spec.specs.wire.Content.{ChunkContent, data_chunk, i_data_chunk, init_chunk, init_ack_chunk, sack_chunk, heartbeat_chunk, heartbeat_ack_chunk, abort_chunk, shutdown_chunk, shutdown_ack_chunk, error_chunk, cookie_echo_chunk, cookie_ack_chunk, shutdown_complete_chunk, re_config_chunk, forward_tsn_chunk, i_forward_tsn_chunk, unknown_chunk}
@@ -9,10 +9,11 @@ use Rattle.dcsctp_spec.specs.queues.Incoming.{is_named}
 use Rattle.dcsctp_spec.specs.queues.Sending.{Fragment}
 use Rattle.dcsctp_spec.specs.endpoint.BegunResets.{BegunReset}
 use Rattle.dcsctp_delivery_directions.specs.sending.Places.{HasEntry, at_place}
-use Rattle.dcsctp_delivery_directions.specs.sending.Log.{Slot, Mark, History, log_extended, with_mark, with_renewed}
+use Rattle.dcsctp_delivery_directions.specs.sending.Log.{Slot, Piece, Mark, History, log_extended, with_mark, with_renewed}
 use Rattle.dcsctp_delivery_directions.specs.sending.Numbers.{IsPieceOfKind}
 use Rattle.dcsctp_delivery_directions.specs.sending.Stages.{SaysTsn}
 use Rattle.dcsctp_delivery_directions.specs.sending.Flushes.{IsPassed, AreForwardEntries, HasLimited, PassesAcknowledged, IsForward, SaysPlain, AreBegun, SaysContent, SayAll, PacketsSay}
+use Rattle.dcsctp_delivery_directions.specs.sending.Naming.{NamesPassed, IsOfPiece, carries, closes}
 use Rattle.dcsctp_delivery_directions.proofs.sending.Places.{at_some, at_stays}
 
 pub at_more : {A : Type 0} (more log : List A) (n : ℕ) (x : A) → at_place n log ≡ Some x → at_place n (more ++ log) ≡ Some x
@@ -136,6 +137,12 @@ module _ (old new : History) (extends : Extends old new) (first before after : �
           record { offset = o.offset; slot = o.slot; from = o.from; to = o.to; at = extends.at o.offset o.slot o.at; ends = o.ends }
           );
       limited = names.0.limited;
+      before = names.0.before;
+      highest = λ kind n f at less on same. (
+          let (slot, was) = at_some n old.log (omega (arith, below, less)) in
+          let both : Some slot ≡ Some (Some f) = sym (extends.at n slot was) ∙ at in
+          names.0.highest kind n f (was ∙ both) less on same
+          );
     },
     entries_later is_interleaved passed entries below names.1,
   )
@@ -143,8 +150,8 @@ module _ (old new : History) (extends : Extends old new) (first before after : �
   passed_later : (tsn : ℕ) → IsPassed old.log first tsn → IsPassed new.log first tsn
   passed_later tsn p = record { passed = p.passed; below = (let size = extends.size in omega (arith, p.below, size)); is = p.is }
 
-  limited_later : HasLimited old.log → HasLimited new.log
-  limited_later is = record { number = is.number; piece = is.piece; at = extends.at is.number (Some is.piece) is.at; limited = is.limited }
+  limited_later : (is_interleaved : Bool) → HasLimited is_interleaved old.log → HasLimited is_interleaved new.log
+  limited_later is_interleaved is = record { number = is.number; piece = is.piece; at = extends.at is.number (Some is.piece) is.at; limited = is.limited; kind = is.kind }
 
   -- what it passes was assigned before
   reliable_later : (passed : ℕ) → passed ≤ length old.log → PassesAcknowledged old.log before passed → PassesAcknowledged new.log after passed
@@ -153,9 +160,26 @@ module _ (old new : History) (extends : Extends old new) (first before after : �
       let both : Some slot ≡ Some (Some f) = sym (extends.at n slot was) ∙ at in
       omega (arith, less, reliable n f (was ∙ both) low unlimited)
 
+  -- a TSN that was assigned before
+  was_of : (n : ℕ) (f : Piece) → n < length old.log → IsOfPiece new.log f n → IsOfPiece old.log f n
+  was_of _ f below (carries n at) = (let (slot, was) = at_some n old.log below in let both : Some slot ≡ Some (Some f) = sym (extends.at n slot was) ∙ at in carries n (was ∙ both))
+  was_of _ f below (closes n at end) =
+      let (slot, was) = at_some n old.log (omega (arith, below)) in
+      let both : Some slot ≡ Some (Some f) = sym (extends.at n slot was) ∙ at in
+      let (slot', was') = at_some (n + 1) old.log below in
+      let both' : Some slot' ≡ Some None = sym (extends.at (n + 1) slot' was') ∙ end in
+      closes n (was ∙ both) (was' ∙ both')
+
+  each_later : (passed : ℕ) (entries : List ((ℕ × Bool) × ℕ)) → passed ≤ length old.log → NamesPassed old.log before passed entries → NamesPassed new.log after passed entries
+  each_later passed entries below each n f of low =
+      elim (each n f (was_of n f (omega (arith, below, low)) of) low) [
+        | inl e ↦ inl (omega (arith, less, e))
+        | inr named ↦ inr named
+      ]
+
   forward_later : (is_interleaved : Bool) (tsn : ℕ) (streams : List ℕ) → IsForward is_interleaved old first before tsn streams → IsForward is_interleaved new first after tsn streams
   unfolding passed_later
-  forward_later is_interleaved tsn streams f = record { passed = passed_later tsn f.passed; entries = f.entries; is = f.is; names = entries_later is_interleaved f.passed.passed f.entries f.passed.below f.names; limited = limited_later f.limited; reliable = reliable_later f.passed.passed f.passed.below f.reliable }
+  forward_later is_interleaved tsn streams f = record { passed = passed_later tsn f.passed; entries = f.entries; is = f.is; names = entries_later is_interleaved f.passed.passed f.entries f.passed.below f.names; limited = limited_later is_interleaved f.limited; reliable = reliable_later f.passed.passed f.passed.below f.reliable; each = λ kind. each_later f.passed.passed f.entries f.passed.below (f.each kind) }
 
   open_later : (chunk : ChunkContent) → SaysPlain old first before (unworked chunk) → SaysPlain new first after (unworked chunk)
   open_later (data_chunk d) says =

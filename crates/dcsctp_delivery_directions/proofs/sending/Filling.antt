@@ -107,6 +107,7 @@ new_stays queued history first acknowledged now old new stands may sends =
               mid = handed.says.mid;
               ssn = handed.says.ssn;
               up_to = omega arith;
+              tail = λ k f past up at. absurd (omega (arith, past, up));
               limits = handed.says.limits;
             }) (new_limited sends.item sends.is_fresh.progress) (subst (λ (b : Bool). Pends history b) (sym sends.begins) stands.pends)
             (λ plain none. whole_grown history.log acknowledged (Some handed.piece) sends.item old.queue.outstanding.items stands.bears.count (stands.bears.whole plain none)

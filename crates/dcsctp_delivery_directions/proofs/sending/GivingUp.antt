@@ -1,5 +1,5 @@
 -- Messages that are abandoned: their ends may take TSNs, which carry no piece.
-use Rattle.std.proofs.Common.{◌≡◌, ℕ, Bool, true, false, ◌<◌, ◌+◌, arith, List, [], ◌∷◌, ◌++◌, length, refl, sym, ◌∙◌, ap, subst, inl, inr}
+use Rattle.std.proofs.Common.{◌≡◌, ℕ, Bool, true, false, ◌<◌, ◌+◌, ◌-◌, arith, List, [], ◌∷◌, ◌++◌, length, refl, sym, ◌∙◌, ap, subst, inl, inr}
 use Rattle.std.specs.Prelude.{◌||◌, not, None, Some, slice_get}
 use Rattle.std.proofs.lemmas.Bool.Decides.{leb_tells}
 use Rattle.dcsctp_spec.specs.types.declared.progress.Change.TheVariants.{Abandon}
@@ -18,9 +18,10 @@ use Rattle.dcsctp_delivery_directions.specs.sending.Pieces.{HoldsQueued}
 use Rattle.dcsctp_delivery_directions.specs.sending.Numbers.{NumbersMessages, is_always_whole}
 use Rattle.dcsctp_delivery_directions.specs.sending.Stages.{IsNamedFragment, IsOfLimited, Bears, Pends, AreMarks, Stands, Stays}
 use Rattle.dcsctp_delivery_directions.proofs.sending.Marks.{pends_later, marks_none, named_end, end_whole}
-use Rattle.dcsctp_delivery_directions.proofs.sending.Discarding.{newest_named, discards_numbered, discards_hold, discards_ways}
+use Rattle.dcsctp_delivery_directions.proofs.sending.Discarding.{newest_named, newest_there, discards_numbered, discards_hold, discards_ways}
 use Rattle.dcsctp_delivery_directions.proofs.sending.StreamWeights.{front_queued}
-use Rattle.dcsctp_delivery_directions.proofs.sending.Places.{at_either}
+use Rattle.dcsctp_delivery_directions.proofs.sending.Places.{at_either, at_below}
+use Rattle.dcsctp_delivery_directions.proofs.sending.OneMessage.{row_between}
 use Rattle.dcsctp_delivery_directions.proofs.sending.Limits.{limited_due, limited_same, limited_stays, limited_more}
 use Rattle.dcsctp_delivery_directions.proofs.sending.Stages.{with_none, at_last, whole_grown, bears_grown, bears_abandoned, cut_none}
 use Rattle.dcsctp_delivery_directions.proofs.sending.Whole.{IsTail, tail_of, given_whole}
@@ -71,6 +72,14 @@ drops_rest_ends queued history first acknowledged own now last old new stands na
     dropped_limited discards n f at is_newest =
         all_limited n f at (newest_named queued history old.waiting last.fragment.stream last.fragment.message_id discards.named stands.queue_holds stands.numbers (kept_whole discards.named) n f at is_newest)
 
+    -- and so is each after the last one in flight
+    of_last : (discards : Discards old.waiting last.fragment.stream last.fragment.message_id old.told new.waiting new.told) → (k : ℕ) (f : Piece) → named.number < k → at_place k history.log ≡ Some (Some f) → f.place ≡ named.piece.place
+    of_last discards k f past at =
+        let below = at_below k (Some f) history.log at in
+        let (g, there, is) =
+        newest_there queued history old.waiting last.fragment.stream last.fragment.message_id discards.named stands.queue_holds stands.numbers (kept_whole discards.named) (omega (arith, below)) in
+        row_between queued history.log stands.cut named.number (length history.log - 1) k named.piece g f named.at there (sym named.of ∙ sym is) (all_limited (length history.log - 1) g there is) (omega (arith, past)) (omega (arith, below)) at
+
     go : (dropped : Bool) → DiscardsNamed old.waiting last.fragment.stream last.fragment.message_id old.told dropped new.waiting new.told → EndsDropped now old.queue.reset_begun last old.queue.outstanding drops.outstanding dropped
         → Ends queued history first acknowledged (record old { queue = record old.queue { outstanding = drops.outstanding }; waiting = new.waiting; told = new.told })
     go true discards ends =
@@ -85,7 +94,8 @@ drops_rest_ends queued history first acknowledged own now last old new stands na
                 (bears_grown history first acknowledged None ends.item old.queue.outstanding stands.bears (ap (λ (f : Fragment). f.payload) ends.is_end.is)
                 (subst (λ (f : Fragment). IsNamedFragment (with_slot None history) (length history.log) f) (sym ends.is_end.is)
                 (named_end history own last.fragment named
-                (end_whole queued history first own old.waiting new.waiting last.fragment old.told new.told stands.queue_holds stands.cut stands.marks stands.numbers discards whole named)))
+                (end_whole queued history first own old.waiting new.waiting last.fragment old.told new.told stands.queue_holds stands.cut stands.marks stands.numbers discards whole named)
+                (of_last discards)))
                 (λ is. limited_stays None history.log ends.item.fragment (limited_same history.log ends.item.fragment last.fragment (ap (λ (f : Fragment). f.message_id) ends.is_end.is) limited))
                 (subst (λ (b : Bool). Pends history b) (sym ends.is_end.begins_after_reset) stands.pends)
                 (λ plain none. whole_grown history.log acknowledged None ends.item old.queue.outstanding.items stands.bears.count (stands.bears.whole plain none)

@@ -61,8 +61,9 @@ marks_none history first old new ways marks mark has =
 -- the end of a message is named as its last item
 pub named_end : (history : History) (own : ℕ) (part : Fragment) (n : IsNamedFragment history own part)
     → ((mark : Mark) → HasEntry mark history.marks → Resets mark n.piece.message.stream → n.number < mark.bound → length history.log < mark.bound)
+    → ((k : ℕ) (f : Piece) → n.number < k → at_place k history.log ≡ Some (Some f) → f.place ≡ n.piece.place)
     → IsNamedFragment (with_slot None history) (length history.log) (record part { fsn = (part.fsn + 1) % 2 ^ 32; is_beginning = false; is_end = true; payload = []; lifecycle = None })
-named_end history own part n whole =
+named_end history own part n whole tail =
     record {
       number = n.number;
       piece = n.piece;
@@ -74,6 +75,7 @@ named_end history own part n whole =
       mid = n.mid;
       ssn = n.ssn;
       up_to = (let below = at_below n.number (Some n.piece) history.log n.at in omega (arith, below));
+      tail = λ k f past up at. tail k f past (with_none history.log k f at);
       limits = n.limits;
     }
 

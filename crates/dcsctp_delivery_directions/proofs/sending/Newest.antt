@@ -4,7 +4,7 @@ use Rattle.std.specs.Prelude.{None, Some}
 use Rattle.std.proofs.lemmas.Bool.{eq-eqb}
 use Rattle.std.proofs.lemmas.Bool.Decides.{eqb_tells, leb_tells}
 use Rattle.dcsctp_delivery_directions.specs.sending.Places.{at_place}
-use Rattle.dcsctp_delivery_directions.specs.sending.Log.{Piece, Slot, newest, newest_on, IsNewestOn}
+use Rattle.dcsctp_delivery_directions.specs.sending.Log.{Piece, Slot, newest, newest_on, IsNewestOn, IsEndOrClosed}
 use Rattle.dcsctp_delivery_directions.proofs.sending.Places.{at_new, at_cases, at_below, at_stays}
 
 pub newest_here : (id : ℕ) (piece : Piece) (log : List Slot) → piece.message.stream ≡ id → newest_on id (Some piece ∷ log) ≡ Some piece
@@ -100,3 +100,8 @@ newest_from id log m f at on none = go (newest_on id log) refl
               is ∙ (cc))
           | inr high ↦ absurd (none found.number g high.1 found.at found.on)
         ]
+
+-- what is closed stays so
+pub closed_stays : (slot : Slot) (log : List Slot) (f : Piece) → IsEndOrClosed log f → IsEndOrClosed (slot ∷ log) f
+closed_stays slot log f (inl end) = inl end
+closed_stays slot log f (inr c) = inr (record { offset = c.offset; at = at_stays c.offset slot (Some f) log c.at; end = at_stays (c.offset + 1) slot None log c.end; limited = c.limited })

@@ -21,8 +21,10 @@ use Rattle.dcsctp_delivery_directions.specs.sending.Log.{Slot, History, log_exte
 use Rattle.dcsctp_delivery_directions.specs.sending.Numbers.{AreOfKind}
 use Rattle.dcsctp_delivery_directions.specs.sending.Stages.{Bears, IsOfLimited, IsOfLog, AreOfLog}
 use Rattle.dcsctp_delivery_directions.specs.sending.Flushes.{AreBegun, NoRequests, IsPassed, AreForwardEntries, HasLimited, PassesAcknowledged, SaysPlain, NoPlain, NoContent, NoData, SaysContent, SayAll, PacketsSay}
+use Rattle.dcsctp_delivery_directions.specs.sending.Naming.{NamesPassed}
 pub use Rattle.dcsctp_delivery_directions.proofs.sending.Extended.{at_more}
 use Rattle.dcsctp_delivery_directions.proofs.sending.Extended.{extends_grown, packets_later}
+use Rattle.dcsctp_delivery_directions.proofs.sending.RowNames.{row_named}
 use Rattle.dcsctp_delivery_directions.proofs.sending.Entries.{row_closes, row_passed, listed_entries, entry_found}
 
 pub packets_more : (more : List Slot) (history : History) (first acknowledged : ℕ) (emissions : List Emission) → PacketsSay history first acknowledged emissions → PacketsSay (log_extended more history) first acknowledged emissions
@@ -75,18 +77,18 @@ module _ (history : History) (first acknowledged : ℕ) where
   said_sacks false room transfer after chunks acknowledges = subst (λ (l : List Plain). SayAll history first acknowledged (plain_contents l)) (sym acknowledges.1) tt
   said_sacks true room transfer after chunks acknowledges = subst (λ (l : List Plain). SayAll history first acknowledged (plain_contents l)) (sym acknowledges.1) (said_fitting room (own_sack room transfer) tt)
 
-  said_forward : (is_interleaved : Bool) (tsn : ℕ) (entries : List ((ℕ × Bool) × ℕ)) → (passed : IsPassed history.log first tsn) → AreForwardEntries is_interleaved history passed.passed entries → HasLimited history.log → PassesAcknowledged history.log acknowledged passed.passed
-      → SaysPlain history first acknowledged (unworked (forward_chunk is_interleaved tsn entries))
-  said_forward true tsn entries passed names limited reliable = record { passed = passed; entries = entries; is = refl; names = names; limited = limited; reliable = reliable }
-  said_forward false tsn entries passed names limited reliable = record { passed = passed; entries = entries; is = refl; names = names; limited = limited; reliable = reliable }
+  said_forward : (is_interleaved : Bool) (tsn : ℕ) (entries : List ((ℕ × Bool) × ℕ)) → (passed : IsPassed history.log first tsn) → AreForwardEntries is_interleaved history passed.passed entries → HasLimited is_interleaved history.log → PassesAcknowledged history.log acknowledged passed.passed
+      → (is_interleaved ≡ true → NamesPassed history.log acknowledged passed.passed entries) → SaysPlain history first acknowledged (unworked (forward_chunk is_interleaved tsn entries))
+  said_forward true tsn entries passed names limited reliable each = record { passed = passed; entries = entries; is = refl; names = names; limited = limited; reliable = reliable; each = each }
+  said_forward false tsn entries passed names limited reliable each = record { passed = passed; entries = entries; is = refl; names = names; limited = limited; reliable = reliable; each = each }
 
   -- the message of the first item in flight may be abandoned, if it was
-  first_limited : (outstanding : OutstandingState) → Bears history first acknowledged outstanding → is_first_abandoned outstanding.items ≡ true → HasLimited history.log
-  first_limited outstanding b is = go outstanding.items (b.abandoned 0) is
+  first_limited : (outstanding : OutstandingState) → AreOfKind outstanding.is_interleaved history.log → Bears history first acknowledged outstanding → is_first_abandoned outstanding.items ≡ true → HasLimited outstanding.is_interleaved history.log
+  first_limited outstanding kinds b is = go outstanding.items (b.abandoned 0) is
     where
-      go : (items : List Item) → ((item : Item) → slice_get items 0 ≡ Some item → is_abandoned item.progress.state ≡ true → IsOfLimited history.log item.fragment) → is_first_abandoned items ≡ true → HasLimited history.log
+      go : (items : List Item) → ((item : Item) → slice_get items 0 ≡ Some item → is_abandoned item.progress.state ≡ true → IsOfLimited history.log item.fragment) → is_first_abandoned items ≡ true → HasLimited outstanding.is_interleaved history.log
       go [] limited first_is = absurd (cc)
-      go (item ∷ items) limited first_is = (let of = limited item refl first_is in record { number = of.number; piece = of.piece; at = of.at; limited = of.limited })
+      go (item ∷ items) limited first_is = (let of = limited item refl first_is in record { number = of.number; piece = of.piece; at = of.at; limited = of.limited; kind = kinds of.number of.piece of.at })
 
   passed_by : (count : ℕ) (outstanding : OutstandingState) → Bears history first acknowledged outstanding → count ≤ length outstanding.items → IsPassed history.log first ((outstanding.first_tsn + count + (2 ^ 32 - 1)) % 2 ^ 32)
   passed_by count outstanding b within =
@@ -102,8 +104,9 @@ module _ (history : History) (first acknowledged : ℕ) where
       subst (λ (l : List Plain). SayAll history first acknowledged (plain_contents l)) (sym is)
       (said_fitting room (unworked chunk) (subst (λ (c : ChunkContent). SaysPlain history first acknowledged (unworked c)) (sym says.is) (said_forward state.outstanding.is_interleaved _ says.entries (passed_by says.count state.outstanding b says.row.within)
       (listed_entries history first queued cut acknowledged says.count state.outstanding kinds b says.row.within says.row.each (row_closes history first queued cut acknowledged _ _ says.count state.outstanding b says.row) says.entries says.entries says.lists.numbers (entry_found says.entries says.lists.none_twice))
-      (first_limited state.outstanding b (abandoned refl))
-      (row_passed history first queued cut acknowledged says.count state.outstanding b says.row.within says.row.each))))
+      (first_limited state.outstanding kinds b (abandoned refl))
+      (row_passed history first queued cut acknowledged says.count state.outstanding b says.row.within says.row.each)
+      (λ kind. row_named history first queued cut acknowledged says.count state.outstanding b says.row.within says.entries kind (λ stream unordered. says.lists.numbers stream unordered)))))
 
   pub said_request : (begun : Option BegunReset) (ids : List ℕ) (bound : ℕ) → SayAll (with_mark begun ids bound history) first acknowledged (request_contents begun)
   said_request None ids bound = tt

@@ -7,7 +7,7 @@ use Rattle.dcsctp_spec.specs.types.declared.sending.UnderWay.{UnderWay}
 use Rattle.dcsctp_spec.specs.types.queues.SendStreams.{Waiting, Stream, front_of, stream_at}
 use Rattle.dcsctp_spec.specs.queues.SendQueue.{SendQueueState}
 use Rattle.dcsctp_spec.specs.queues.Sending.{progress_after, stream_held_after, released_queue, is_kept_whole, reserve_begun}
-use Rattle.dcsctp_delivery_directions.specs.sending.Log.{Message, Piece, History, with_slot, IsEndOrLimited}
+use Rattle.dcsctp_delivery_directions.specs.sending.Log.{Message, Piece, History, with_slot, is_end}
 use Rattle.dcsctp_delivery_directions.specs.sending.Numbers.{stream_named, is_handed_out, IsUnderWayKept, HoldsWhole, CountsByKind, NumbersMessages, is_always_whole, RestAtEnds}
 use Rattle.dcsctp_delivery_directions.specs.sending.Pieces.{HoldsQueued}
 use Rattle.dcsctp_delivery_directions.proofs.sending.Places.{decide}
@@ -17,7 +17,7 @@ use Rattle.dcsctp_delivery_directions.proofs.sending.Fragments.{changes_named}
 use Rattle.dcsctp_delivery_directions.proofs.sending.WhatLeaves.{Produces, Leaves, part, last, released_same}
 use Rattle.dcsctp_delivery_directions.proofs.sending.ProducedNumbers.{kinds_more}
 use Rattle.dcsctp_delivery_directions.proofs.sending.ProducedTurns.{held_whole}
-use Rattle.dcsctp_delivery_directions.proofs.sending.Newest.{newest_here, newest_else}
+use Rattle.dcsctp_delivery_directions.proofs.sending.Newest.{newest_here, newest_else, closed_stays}
 
 -- the stream of this number is held
 abbrev pub held_on : ℕ → Option StreamId
@@ -131,7 +131,7 @@ module _ (queued : List Message) (history : History) (max : ℕ) (queue : SendQu
   ways_after new (last all p held) = kept_with (drop 1 (stream_at queue.streams t.place).messages) None new p
 
   -- the stream rests at an end, if it rests
-  rests_with : (messages : List Waiting) (progress : Option UnderWay) (new : SendQueueState) → Produces t.place t.waiting t.under_way messages progress queue new → (progress ≡ None → IsEndOrLimited piece)
+  rests_with : (messages : List Waiting) (progress : Option UnderWay) (new : SendQueueState) → Produces t.place t.waiting t.under_way messages progress queue new → (progress ≡ None → is_end piece ≡ true)
       → RestAtEnds (Some piece ∷ history.log) new.streams
   rests_with messages progress new p its other none f newest =
       elim (decide other here) [
@@ -139,10 +139,11 @@ module _ (queued : List Message) (history : History) (max : ℕ) (queue : SendQu
             (let rests : progress ≡ None = sym p.progress_is ∙ ap (λ (s : Stream). s.under_way) (sym (there messages progress new p)) ∙ ap (λ (k : ℕ). (stream_named k new.streams).under_way) (sym at) ∙ none in
             let both : Some piece ≡ Some f = sym (newest_here other piece history.log (stream_is queued max queue piece t ∙ sym at)) ∙ newest in
             let same : piece ≡ f = cc in
-            subst IsEndOrLimited same (its rests))
+            inl (subst (λ (x : Piece). is_end x ≡ true) same (its rests)))
         | inr ne ↦
-            numbers.rests other (ap (λ (s : Stream). s.under_way) (sym (p.one.named other ne)) ∙ none) f
-            (sym (newest_else other piece history.log (λ on. ne (sym on ∙ stream_is queued max queue piece t))) ∙ newest)
+            closed_stays (Some piece) history.log f
+            (numbers.rests other (ap (λ (s : Stream). s.under_way) (sym (p.one.named other ne)) ∙ none) f
+            (sym (newest_else other piece history.log (λ on. ne (sym on ∙ stream_is queued max queue piece t))) ∙ newest))
       ]
 
   rests_after : (new : SendQueueState) → Leaves t.place max t.waiting t.under_way queue new → RestAtEnds (Some piece ∷ history.log) new.streams
@@ -150,7 +151,7 @@ module _ (queued : List Message) (history : History) (max : ℕ) (queue : SendQu
   rests_after new (last all p held) =
       rests_with (drop 1 (stream_at queue.streams t.place).messages) None new p
       (λ none. (let start = t.start in let size = t.size in let unfinished = t.unfinished in let lengths = piece_lengths queued max queue piece t in
-      inl (eq-eqb (piece.start + piece.size) (length piece.message.payload) (omega (arith, start, size, unfinished, lengths, all)))))
+      eq-eqb (piece.start + piece.size) (length piece.message.payload) (omega (arith, start, size, unfinished, lengths, all))))
 
   pub numbers_after : (new : SendQueueState) → Leaves t.place max t.waiting t.under_way queue new → CountsByKind queue.is_interleaved (with_slot (Some piece) history) new.streams new.held
       → NumbersMessages (with_slot (Some piece) history) new

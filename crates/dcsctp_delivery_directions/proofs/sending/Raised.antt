@@ -20,7 +20,7 @@ pub extends_floors : (floors : ℕ → Bool → ℕ) (history : History) → Ext
 extends_floors floors history = record { at = λ n slot at. at; size = omega arith; marks = λ mark has. has; later = λ mark has. inl (as_itself history mark has) }
 
 named_floors : (floors : ℕ → Bool → ℕ) (history : History) (own : ℕ) (part : Fragment) → IsNamedFragment history own part → IsNamedFragment (with_floors floors history) own part
-named_floors floors history own part n = record { number = n.number; piece = n.piece; at = n.at; of = n.of; whole = n.whole; stream = n.stream; unordered = n.unordered; mid = n.mid; ssn = n.ssn; up_to = n.up_to; limits = n.limits }
+named_floors floors history own part n = record { number = n.number; piece = n.piece; at = n.at; of = n.of; whole = n.whole; stream = n.stream; unordered = n.unordered; mid = n.mid; ssn = n.ssn; up_to = n.up_to; tail = n.tail; limits = n.limits }
 
 pub bears_floors : (floors : ℕ → Bool → ℕ) (history : History) (first acknowledged : ℕ) (outstanding : OutstandingState) → Bears history first acknowledged outstanding → Bears (with_floors floors history) first acknowledged outstanding
 bears_floors floors history first acknowledged outstanding b =

@@ -36,6 +36,7 @@ module _ (history : History) (number : ℕ) (renewed : Mark) (known : HasEntry r
         mid = n.mid;
         ssn = n.ssn;
         up_to = n.up_to;
+        tail = n.tail;
         limits = n.limits;
       }
 

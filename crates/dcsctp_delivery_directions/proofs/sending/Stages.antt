@@ -14,6 +14,7 @@ use Rattle.dcsctp_delivery_directions.specs.sending.Log.{Message, Piece, Slot, I
 use Rattle.dcsctp_delivery_directions.specs.sending.Pieces.{HandsOutPiece}
 use Rattle.dcsctp_delivery_directions.specs.sending.Stages.{SaysSlot, SaysTsn, IsNamedFragment, IsOfLimited, IsAbandonedItem, AreMessagesWhole, Bears, Pends}
 use Rattle.dcsctp_delivery_directions.proofs.sending.Limits.{Leaves, limited_stays}
+use Rattle.dcsctp_delivery_directions.proofs.sending.Newest.{closed_stays}
 use Rattle.dcsctp_delivery_directions.proofs.sending.Places.{at_new, at_old, at_cases, at_below, at_stays}
 
 -- ---- logs
@@ -67,7 +68,7 @@ cut_none queued log newest_limited cut =
         | inl e ↦ newest_limited n f (with_none log n f at) e.0
         | inr old ↦ cut.shuts n f (with_none log n f at) old
       ];
-      ends = λ m n f g less at at' on starts none. cut.ends m n f g less (with_none log m f at) (with_none log n g at') on starts (λ k h above below there. none k h above below (at_stays k None (Some h) log there));
+      ends = λ m n f g less at at' on starts none. closed_stays None log f (cut.ends m n f g less (with_none log m f at) (with_none log n g at') on starts (λ k h above below there. none k h above below (at_stays k None (Some h) log there)));
     }
 
 pub cut_more : (queued : List Message) (history : History) (part : Fragment) (new : SendQueueState) (handed : HandsOutPiece queued history part new) → IsLogOfPieces queued history.log → IsLogOfPieces queued (Some handed.piece ∷ history.log)
@@ -130,12 +131,14 @@ cut_more queued history part new handed cut =
             (let same : handed.piece ≡ g = cc in
             let here : n ≡ length history.log = e.0 in
             let old : at_place m history.log ≡ Some (Some f) = sym (at_old m (Some handed.piece) history.log (omega (arith, less, here))) ∙ at in
-            handed.ends m f old (ap (λ (h : Piece). h.start) same ∙ starts) (on ∙ ap (λ (h : Piece). h.message.stream) (sym same))
-            (λ k h above there on'. none k h above (let below = at_below k (Some h) history.log there in omega (arith, below, here)) (at_stays k (Some handed.piece) (Some h) history.log there) (on' ∙ ap (λ (x : Piece). x.message.stream) same)))
+            closed_stays (Some handed.piece) history.log f
+            (handed.ends m f old (ap (λ (h : Piece). h.start) same ∙ starts) (on ∙ ap (λ (h : Piece). h.message.stream) (sym same))
+            (λ k h above there on'. none k h above (let below = at_below k (Some h) history.log there in omega (arith, below, here)) (at_stays k (Some handed.piece) (Some h) history.log there) (on' ∙ ap (λ (x : Piece). x.message.stream) same))))
         | inr old' ↦
             (let below : n < length history.log = at_below n (Some g) history.log old' in
-            cut.ends m n f g less (sym (at_old m (Some handed.piece) history.log (omega (arith, less, below))) ∙ at) old' on starts
-            (λ k h above under there. none k h above under (at_stays k (Some handed.piece) (Some h) history.log there)))
+            closed_stays (Some handed.piece) history.log f
+            (cut.ends m n f g less (sym (at_old m (Some handed.piece) history.log (omega (arith, less, below))) ∙ at) old' on starts
+            (λ k h above under there. none k h above under (at_stays k (Some handed.piece) (Some h) history.log there))))
       ];
     }
 
@@ -287,9 +290,9 @@ at_last [] last (suc k) item at = absurd (cc)
 at_last (i ∷ items) last zero item at = inl at
 at_last (i ∷ items) last (suc k) item at = elim (at_last items last k item at) [ inl e ↦ inl e | inr e ↦ inr (ap suc e.0, e.1) ]
 
-pub named_stays : (slot : Slot) (history : History) (own : ℕ) (part : Fragment) → IsNamedFragment history own part → IsNamedFragment (with_slot slot history) own part
-named_stays slot history own part n =
-    record { number = n.number; piece = n.piece; at = at_stays n.number slot (Some n.piece) history.log n.at; of = n.of; whole = n.whole; stream = n.stream; unordered = n.unordered; mid = n.mid; ssn = n.ssn; up_to = n.up_to; limits = n.limits }
+pub named_stays : (slot : Slot) (history : History) (own : ℕ) (part : Fragment) → own < length history.log → IsNamedFragment history own part → IsNamedFragment (with_slot slot history) own part
+named_stays slot history own part below n =
+    record { number = n.number; piece = n.piece; at = at_stays n.number slot (Some n.piece) history.log n.at; of = n.of; whole = n.whole; stream = n.stream; unordered = n.unordered; mid = n.mid; ssn = n.ssn; up_to = n.up_to; tail = λ k f past up at. n.tail k f past up (sym (at_old k slot history.log (omega (arith, up, below))) ∙ at); limits = n.limits }
 
 -- Messages are whole after one more item, which continues the message of the last one if that hasn't ended.
 pub whole_grown : (log : List Slot) (acknowledged : ℕ) (slot : Slot) (item : Item) (items : List Item) → length log ≡ acknowledged + length items → AreMessagesWhole log acknowledged items
@@ -358,7 +361,7 @@ bears_grown history first acknowledged slot item outstanding b says named limite
             }
       ];
       named = λ k found at. elim (at_last outstanding.items item k found at) [
-        | inl old ↦ named_stays slot history (acknowledged + k) found.fragment (b.named k found old)
+        | inl old ↦ (let there = b.items k found old in named_stays slot history (acknowledged + k) found.fragment (at_below (acknowledged + k) there.slot history.log there.at) (b.named k found old))
         | inr e ↦
             subst (λ (n : ℕ). IsNamedFragment (with_slot slot history) n found.fragment) (sym (here k e.0))
             (subst (λ (x : Item). IsNamedFragment (with_slot slot history) (length history.log) x.fragment) e.1 named)

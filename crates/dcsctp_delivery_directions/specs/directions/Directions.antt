@@ -113,6 +113,11 @@ pub record HasAsked (requests : List BegunReset) (streams : List ℕ) : Type 0 w
   pub has : HasEntry begun requests
   pub is : begun.reset.streams ≡ streams
 
+-- One names them, and this last TSN.
+pub record HasAskedUpTo (requests : List BegunReset) (last_tsn : ℕ) (streams : List ℕ) : Type 0 where
+  pub asked : HasAsked requests streams
+  pub last : asked.begun.reset.last_tsn ≡ last_tsn
+
 -- once this reset was begun, if one was
 abbrev pub asking_with : Option BegunReset → Asking → Asking
 asking_with None asking = asking
@@ -212,8 +217,8 @@ pub data DirectionStep (old : Direction) : Direction → Type 0 where
       → DirectionStep old (record old { tracker = new.tracker; reassembly = new.reassembly })
   -- The receiver acknowledges, now or later.
   tracks : (new : TrackerState) → new.cumulative ≡ old.tracker.cumulative → new.ranges ≡ old.tracker.ranges → DirectionStep old (record old { tracker = new })
-  -- The streams of a request that the sender has begun are to be reset once all up to a TSN was received, whatever that is.
-  defers : (last_tsn : ℕ) (streams : List ℕ) → HasAsked old.asking.requests streams → DirectionStep old (record old { reassembly = deferring last_tsn streams old.reassembly })
+  -- The streams of a request that the sender has begun are to be reset once all up to its last TSN was received.
+  defers : (last_tsn : ℕ) (streams : List ℕ) → HasAskedUpTo old.asking.requests last_tsn streams → DirectionStep old (record old { reassembly = deferring last_tsn streams old.reassembly })
   -- The newest reset is performed: all that was sent before it was received, and what waits, waits for it. With interleaving it
   -- wasn't performed before under its number.
   performs : (newest : BegunReset) (earlier : List BegunReset) (new : ReassemblyState) → old.asking.requests ≡ newest ∷ earlier

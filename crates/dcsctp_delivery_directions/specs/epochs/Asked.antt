@@ -12,21 +12,21 @@ use Rattle.dcsctp_delivery_directions.specs.order.Delivered.{AreDeliveredInOrder
 
 -- The reset was asked for when so many messages were queued. Of the messages of the stream the first ones, up to this index, were
 -- queued before, and none of the others. They leave no gap, if the sender began with all that was queued; and they are all of its epoch, if
--- nothing of the stream waited then. `fulls` says when.
-pub record IsAskedCut (whole : Bool) (asks fulls : ℕ → ℕ → Bool) (queued : List Message) (id index : ℕ) (places : List ℕ) : Type 0 where
+-- nothing of the stream waited then. `fulls` says when, and `sized` is whether the receive window is of 2^63 bytes or less.
+pub record IsAskedCut (whole sized : Bool) (asks fulls : ℕ → ℕ → Bool) (queued : List Message) (id index : ℕ) (places : List ℕ) : Type 0 where
   pub place : ℕ
   pub asked : asks id place ≡ true
   pub before : place ≤ length queued
   pub separates : Separates queued id index place places
-  pub no_gap : whole ≡ true → LeaveNoGapBefore (asks id) queued id place places
+  pub no_gap : whole ≡ true → LeaveNoGapBefore sized (asks id) queued id place places
   pub all : whole ≡ true → fulls id place ≡ true → index ≤ length places → HaveAllBefore (asks id) queued id (record { index = index; place = place; is_whole = true }) places
 
 -- What was read is in order, and it is so of each reset that was performed, on each stream that it names. What was read since leaves
 -- no gap either.
-pub record AreCutAsAsked (whole : Bool) (asks fulls : ℕ → ℕ → Bool) (performed : List PerformedReset) (queued : List Message) (read : List MessageContent) : Type 0 where
+pub record AreCutAsAsked (whole sized : Bool) (asks fulls : ℕ → ℕ → Bool) (performed : List PerformedReset) (queued : List Message) (read : List MessageContent) : Type 0 where
   pub ordered : AreDeliveredInOrder queued read
-  pub cut : (id : ℕ) (reset : PerformedReset) → HasEntry reset performed → names_stream reset.streams id ≡ true → IsAskedCut whole asks fulls queued id reset.index ordered.delivered.places
-  pub no_gap : whole ≡ true → (id : ℕ) → LeaveNoGapBefore (asks id) queued id (length queued) ordered.delivered.places
+  pub cut : (id : ℕ) (reset : PerformedReset) → HasEntry reset performed → names_stream reset.streams id ≡ true → IsAskedCut whole sized asks fulls queued id reset.index ordered.delivered.places
+  pub no_gap : whole ≡ true → (id : ℕ) → LeaveNoGapBefore sized (asks id) queued id (length queued) ordered.delivered.places
 
 -- when nothing of a stream waits as its reset is asked for, if the receive window is of 2^63 bytes or less
 abbrev pub known_fulls : ℕ → Beginning → ℕ → ℕ → Bool
@@ -36,4 +36,4 @@ known_fulls size beginning id count = beginning.empties id count && nat_le size 
 abbrev pub DirectionsCutAsAsked : Type 0
 DirectionsCutAsAsked =
     (options : Options) (first size : ℕ) (direction : Direction) → DirectionRun options first size direction → first < 2 ^ 32 → assigned_count direction < 2 ^ 31 → length direction.queued < 2 ^ 64
-    → direction.queues.queue.is_interleaved ≡ true → direction.beginning.from_zero ≡ true → AreCutAsAsked direction.beginning.has_all direction.beginning.asks (known_fulls size direction.beginning) direction.performed direction.queued direction.read
+    → direction.queues.queue.is_interleaved ≡ true → direction.beginning.from_zero ≡ true → AreCutAsAsked direction.beginning.has_all (nat_le size (2 ^ 63)) direction.beginning.asks (known_fulls size direction.beginning) direction.performed direction.queued direction.read

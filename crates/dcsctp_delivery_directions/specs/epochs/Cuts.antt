@@ -51,13 +51,13 @@ abbrev pub known_asks : Beginning → ℕ → ℕ → Bool
 known_asks beginning id count = if beginning.has_all then beginning.asks id count else true
 
 -- What was read is in order, and each reset of a stream that was performed separates what was queued before it was asked for from
--- what was queued since. No epoch has a gap. If nothing waited when it was asked for, and all was read
--- that could be then, nothing of its epoch is missing.
-pub record AreDeliveredByEpoch (asks : ℕ → ℕ → Bool) (cuts : ℕ → List Cut) (queued : List Message) (read : List MessageContent) : Type 0 where
+-- what was queued since. No message without limits is left out of an epoch before another. If nothing waited when it was asked for,
+-- and all was read that could be then, none of its epoch is missing.
+pub record AreDeliveredByEpoch (sized : Bool) (asks : ℕ → ℕ → Bool) (cuts : ℕ → List Cut) (queued : List Message) (read : List MessageContent) : Type 0 where
   pub ordered : AreDeliveredInOrder queued read
   pub epochs : (id : ℕ) (cut : Cut) → HasEntry cut (cuts id) → Separates queued id cut.index cut.place ordered.delivered.places
-  pub no_gaps : (id : ℕ) (cut : Cut) → HasEntry cut (cuts id) → LeaveNoGapBefore (asks id) queued id cut.place ordered.delivered.places
-  pub no_gap : (id : ℕ) → LeaveNoGapBefore (asks id) queued id (length queued) ordered.delivered.places
+  pub no_gaps : (id : ℕ) (cut : Cut) → HasEntry cut (cuts id) → LeaveNoGapBefore sized (asks id) queued id cut.place ordered.delivered.places
+  pub no_gap : (id : ℕ) → LeaveNoGapBefore sized (asks id) queued id (length queued) ordered.delivered.places
   pub before : (id : ℕ) (cut : Cut) → HasEntry cut (cuts id) → cut.place ≤ length queued
   pub complete : (id : ℕ) (cut : Cut) → HasEntry cut (cuts id) → cut.is_whole ≡ true → cut.index ≤ length ordered.delivered.places → HaveAllBefore (asks id) queued id cut ordered.delivered.places
 
@@ -65,4 +65,4 @@ pub record AreDeliveredByEpoch (asks : ℕ → ℕ → Bool) (cuts : ℕ → Lis
 abbrev pub DirectionsDeliverByEpoch : Type 0
 DirectionsDeliverByEpoch =
     (options : Options) (first size : ℕ) (direction : Direction) (run : DirectionRun options first size direction) → first < 2 ^ 32 → assigned_count direction < 2 ^ 31 → length direction.queued < 2 ^ 64
-    → direction.queues.queue.is_interleaved ≡ true → direction.beginning.from_zero ≡ true → AreDeliveredByEpoch (known_asks direction.beginning) (cuts_of options first size direction run) direction.queued direction.read
+    → direction.queues.queue.is_interleaved ≡ true → direction.beginning.from_zero ≡ true → AreDeliveredByEpoch (nat_le size (2 ^ 63)) (known_asks direction.beginning) (cuts_of options first size direction run) direction.queued direction.read

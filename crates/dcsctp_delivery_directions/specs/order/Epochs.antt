@@ -11,14 +11,15 @@ abbrev pub AreSentUnlimited : History → ℕ → ℕ → Type 0
 AreSentUnlimited history id from =
     (n : ℕ) (f : Piece) → at_place n history.log ≡ Some (Some f) → f.message.stream ≡ id → f.message.is_unordered ≡ false → from ≤ f.place → f.message.is_limited ≡ false
 
--- Of the messages of its epoch none is left out of these before this one, if it has no limits, and none that was sent since has.
-abbrev pub LeavesNoGapTo : (ℕ → Bool) → List Message → History → ℕ → List ℕ → ℕ → Type 0
-LeavesNoGapTo asks queued history id all later =
-    (earlier : ℕ) (on : IsOrderedOn queued id earlier) → on.message.is_limited ≡ false → earlier < later → AreOfOneEpoch asks earlier later → AreSentUnlimited history id earlier → HasEntry earlier all
+-- Of the messages of its epoch none is left out of these before this one, if it has no limits: and if it is known which TSNs were
+-- received, or none that was sent since has limits.
+abbrev pub LeavesNoGapTo : Bool → (ℕ → Bool) → List Message → History → ℕ → List ℕ → ℕ → Type 0
+LeavesNoGapTo knows asks queued history id all later =
+    (earlier : ℕ) (on : IsOrderedOn queued id earlier) → on.message.is_limited ≡ false → earlier < later → AreOfOneEpoch asks earlier later → (knows ≡ false → AreSentUnlimited history id earlier) → HasEntry earlier all
 
 -- So it is of each of them.
-abbrev pub LeaveNoGapSent : (ℕ → Bool) → List Message → History → ℕ → List ℕ → Type 0
-LeaveNoGapSent asks queued history id all = (later : ℕ) → HasEntry later all → IsOrderedOn queued id later → LeavesNoGapTo asks queued history id all later
+abbrev pub LeaveNoGapSent : Bool → (ℕ → Bool) → List Message → History → ℕ → List ℕ → Type 0
+LeaveNoGapSent knows asks queued history id all = (later : ℕ) → HasEntry later all → IsOrderedOn queued id later → LeavesNoGapTo knows asks queued history id all later
 
 -- It was sent since the last reset of the stream, under a number below this one.
 pub record IsReadSince (history : History) (id place number : ℕ) : Type 0 where
@@ -27,8 +28,9 @@ pub record IsReadSince (history : History) (id place number : ℕ) : Type 0 wher
   pub from : history.floors id false ≤ mid
   pub below : mid + 2 ^ 32 < history.floors id false + number
 
--- A message with limits was sent under this number or a higher one since the last reset of the stream.
-pub record IsLimitedFrom (history : History) (id number : ℕ) : Type 0 where
+-- A message with limits was sent under this number since the last reset of the stream: or under a higher one, where it isn't known
+-- which TSNs were received.
+pub record IsLimitedFrom (knows : Bool) (history : History) (id number : ℕ) : Type 0 where
   pub offset : ℕ
   pub piece : Piece
   pub at : at_place offset history.log ≡ Some (Some piece)
@@ -36,12 +38,13 @@ pub record IsLimitedFrom (history : History) (id number : ℕ) : Type 0 where
   pub ordered : piece.message.is_unordered ≡ false
   pub limited : piece.message.is_limited ≡ true
   pub from : history.floors id false + number ≤ piece.mid + 2 ^ 32
+  pub only : knows ≡ true → piece.mid + 2 ^ 32 ≡ history.floors id false + number
 
--- All numbers before the next one are among these, or come before one with limits. And each of these was sent since the last reset,
+-- All numbers before the next one are among these, or are of one with limits. And each of these was sent since the last reset,
 -- or none is left out before it.
-pub record AreReadByEpoch (asks : ℕ → Bool) (queued : List Message) (history : History) (id : ℕ) (all : List ℕ) (next : ℕ) : Type 0 where
-  pub filled : (number : ℕ) → 2 ^ 32 ≤ number → number < next → HasNumber history id all number ⊎ IsLimitedFrom history id number
-  pub since : (later : ℕ) → HasEntry later all → IsOrderedOn queued id later → IsReadSince history id later next ⊎ LeavesNoGapTo asks queued history id all later
+pub record AreReadByEpoch (knows : Bool) (asks : ℕ → Bool) (queued : List Message) (history : History) (id : ℕ) (all : List ℕ) (next : ℕ) : Type 0 where
+  pub filled : (number : ℕ) → 2 ^ 32 ≤ number → number < next → HasNumber history id all number ⊎ IsLimitedFrom knows history id number
+  pub since : (later : ℕ) → HasEntry later all → IsOrderedOn queued id later → IsReadSince history id later next ⊎ LeavesNoGapTo knows asks queued history id all later
 
 -- A message without limits that was queued before another of its epoch, which was sent since the last reset of the stream, was sent
 -- since as well.

@@ -11,19 +11,20 @@ use Rattle.dcsctp_spec_lemmas.specs.spec.queues.Reassembly.{names_stream}
 use Rattle.dcsctp_delivery_directions.specs.sending.Places.{HasEntry, at_place}
 use Rattle.dcsctp_delivery_directions.specs.sending.Log.{Message, Slot, History, IsLogOfPieces, sent_messages, SentMessages, Piece}
 use Rattle.dcsctp_delivery_directions.specs.sending.Numbers.{IsUnambiguous}
-use Rattle.dcsctp_delivery_directions.specs.receiving.Ready.{HoldsAll, WasQueued, WereQueued, BearsPiece, AreNamed, held_messages, HeldMessages}
+use Rattle.dcsctp_delivery_directions.specs.receiving.Ready.{HoldsAll, WasQueued, WereQueued, BearsPiece, held_messages, HeldMessages}
 use Rattle.dcsctp_delivery_directions.specs.order.Queue.{ComeInOrder, AreSeparated}
 use Rattle.dcsctp_delivery_directions.specs.order.Order.{IsBetweenResets}
 use Rattle.dcsctp_delivery_directions.specs.order.Epochs.{LeaveNoGapSent, SendsEpochsInTurn}
 use Rattle.dcsctp_delivery_directions.specs.order.Reading.{CountsFromZero, OrderedStream, Watch, uncut, ComeSince}
 use Rattle.dcsctp_delivery_directions.specs.order.Parts.{HoldsPartsOf, ReadsAllSent}
+use Rattle.dcsctp_delivery_directions.specs.order.Skips.{AreSkipsHandled}
 
 -- The stream is in order; or it was reset, and its messages aren't numbered from 0 yet. All that was sent before is read then, if
 -- that is to be known.
 abbrev pub IsOrderedOrReset : Watch → Bool → SentMessages → ℕ → List ℕ → List ℕ → StreamModel → Type 0
 IsOrderedOrReset watch false user id all waits stream = OrderedStream watch user.queued user.history id all waits stream
 IsOrderedOrReset watch true user id all waits stream =
-    IsBetweenResets user.queued user.history id all × AreSeparated watch.asks user.queued id watch.cuts all × LeaveNoGapSent watch.asks user.queued user.history id all × (watch.knows_all ≡ true → ReadsAllSent user.history id all)
+    IsBetweenResets user.queued user.history id all × AreSeparated watch.knows_all watch.asks user.queued id watch.cuts all × LeaveNoGapSent watch.knows_all watch.asks user.queued user.history id all × (watch.knows_all ≡ true → ReadsAllSent user.history id all)
 
 -- All that is held was queued, and the streams whose numbers begin at 0 are in order, with all parts that were handled. `watch` is what is
 -- watched of each.
@@ -56,11 +57,11 @@ ReadyInOrder =
 abbrev pub NoneIsQuiet : (ℕ → Bool) → List SkippedTo → Type 0
 NoneIsQuiet quiet entries = AllByRecursion (λ entry. quiet (skipped_stream entry) ≡ false) entries
 
--- So does an I-FORWARD-TSN, whatever it skips,
+-- So does an I-FORWARD-TSN, if it skips nothing without limits that wasn't handled,
 abbrev pub SkippingInOrder : Type 0
 SkippingInOrder =
     (watch : ℕ → Watch) (queued : List Message) (history : History) (quiet : ℕ → Bool) (got : List ℕ) (base tsn : ℕ) (read : List ℕ) (entries : List SkippedTo) (old new : IncomingModel)
-    → AreNamed history entries → NoneIsQuiet quiet entries → IncomingOrdered watch (sent_messages queued history) quiet got base read old → MovesOn tsn entries old new → IncomingOrdered watch (sent_messages queued history) quiet got base read new
+    → IsLogOfPieces queued history.log → IsUnambiguous history → AreSkipsHandled watch history got entries → NoneIsQuiet quiet entries → IncomingOrdered watch (sent_messages queued history) quiet got base read old → MovesOn tsn entries old new → IncomingOrdered watch (sent_messages queued history) quiet got base read new
 
 -- All that was sent on each of these streams is read, if it isn't quiet and that is to be known.
 abbrev pub NamedAreRead : (ℕ → Watch) → History → (ℕ → Bool) → List ℕ → List ℕ → Type 0
@@ -71,7 +72,7 @@ NamedAreRead watch history quiet streams all =
 abbrev pub ResettingInOrder : Type 0
 ResettingInOrder =
     (watch : ℕ → Watch) (queued : List Message) (history : History) (quiet : ℕ → Bool) (got : List ℕ) (base : ℕ) (read streams : List ℕ) (old new : IncomingModel)
-    → ((id : ℕ) → SendsEpochsInTurn (watch id).asks queued history id) → (o : IncomingOrdered watch (sent_messages queued history) quiet got base read old) → NamedAreRead watch history quiet streams (read ++ o.holds.places) → ResetsStreams streams old new → IncomingOrdered watch (sent_messages queued history) (λ id. quiet id || names_stream streams id) got base read new
+    → IsLogOfPieces queued history.log → ((id : ℕ) → SendsEpochsInTurn (watch id).asks queued history id) → (o : IncomingOrdered watch (sent_messages queued history) quiet got base read old) → NamedAreRead watch history quiet streams (read ++ o.holds.places) → ResetsStreams streams old new → IncomingOrdered watch (sent_messages queued history) (λ id. quiet id || names_stream streams id) got base read new
 
 -- the first message that can be read, and those after it
 pub record FirstReady : Type 0 where

@@ -1,5 +1,5 @@
 -- Which parts of the ordered messages of a stream its receiver holds, with interleaving (RFC 8260, section 2.1): all
--- that it handled of those that aren't read, as long as none of them may be skipped.
+-- that it handled of those that aren't before the next one, whatever is skipped.
 use Rattle.std.specs.Prelude.{◌≡◌, ◌⊎◌, ◌≤◌, ◌+◌, ◌%◌, ◌^◌, ℕ, Bool, true, false, List}
 use Rattle.dcsctp_spec_lemmas.specs.spec.queues.Numbers.{fragment_place}
 use Rattle.dcsctp_spec_lemmas.specs.spec.queues.IncomingStreams.{StreamModel, is_number_waiting}
@@ -7,10 +7,6 @@ use Rattle.dcsctp_delivery_directions.specs.sending.Places.{HasEntry}
 use Rattle.dcsctp_delivery_directions.specs.sending.Log.{Piece, History}
 use Rattle.dcsctp_delivery_directions.specs.order.Runs.{LieApart, IsHeldForMessage}
 use Rattle.dcsctp_delivery_directions.specs.order.Reading.{IsSince}
-
--- No ordered message that was sent on the stream since its last reset has limits.
-abbrev pub AreUnlimitedSince : History → ℕ → Type 0
-AreUnlimitedSince history id = (n : ℕ) (f : Piece) → IsSince history id n f → f.message.is_limited ≡ false
 
 -- The part with this fragment number is held, or its whole message waits.
 abbrev pub IsPartHeld : StreamModel → ℕ → ℕ → Type 0
@@ -26,10 +22,10 @@ pub record HoldsParts (history : History) (got : List ℕ) (id : ℕ) (stream : 
   pub apart : LieApart 0 stream.ordered
   pub held : ArePartsHeld history got id stream
 
--- Each ordered message that was sent on the stream since its last reset is among these, if none has limits.
+-- Each ordered message without limits that was sent on the stream since its last reset is among these.
 abbrev pub ReadsAllSent : History → ℕ → List ℕ → Type 0
-ReadsAllSent history id all = AreUnlimitedSince history id → (n : ℕ) (f : Piece) → IsSince history id n f → HasEntry f.place all
+ReadsAllSent history id all = (n : ℕ) (f : Piece) → IsSince history id n f → f.message.is_limited ≡ false → HasEntry f.place all
 
--- So it is of a stream that isn't quiet, if none of its messages has limits.
+-- So it is of a stream that isn't quiet.
 abbrev pub HoldsPartsOf : History → Bool → List ℕ → ℕ → StreamModel → Type 0
-HoldsPartsOf history quiet got id stream = AreUnlimitedSince history id → quiet ≡ false → HoldsParts history got id stream
+HoldsPartsOf history quiet got id stream = quiet ≡ false → HoldsParts history got id stream

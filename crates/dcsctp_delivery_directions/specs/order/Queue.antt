@@ -45,11 +45,12 @@ AreOfOneEpoch asks earlier later = (count : ℕ) → earlier < count → count �
 abbrev pub AreUnlimitedFrom : List Message → ℕ → ℕ → ℕ → Type 0
 AreUnlimitedFrom queued id from to = (place : ℕ) → from ≤ place → place < to → (on : IsOrderedOn queued id place) → on.message.is_limited ≡ false
 
--- Of those that were queued before this place none is left out before another of its epoch, if none from that one on has limits.
-abbrev pub LeaveNoGapBefore : (ℕ → Bool) → List Message → ℕ → ℕ → List ℕ → Type 0
-LeaveNoGapBefore asks queued id end places =
-    (earlier later : ℕ) → HasEntry later places → IsOrderedOn queued id later → IsOrderedOn queued id earlier → earlier < later → later < end → AreOfOneEpoch asks earlier later
-    → AreUnlimitedFrom queued id earlier end → HasEntry earlier places
+-- Of those that were queued before this place none without limits is left out before another of its epoch: if it is known which TSNs
+-- were received, or none from that one on has limits.
+abbrev pub LeaveNoGapBefore : Bool → (ℕ → Bool) → List Message → ℕ → ℕ → List ℕ → Type 0
+LeaveNoGapBefore knows asks queued id end places =
+    (earlier later : ℕ) → HasEntry later places → IsOrderedOn queued id later → (on : IsOrderedOn queued id earlier) → on.message.is_limited ≡ false → earlier < later → later < end
+    → AreOfOneEpoch asks earlier later → (knows ≡ false → AreUnlimitedFrom queued id earlier end) → HasEntry earlier places
 
 -- A reset of a stream that its receiver has performed: how many messages were read or ready then, of all streams, and how many
 -- were queued when it was asked for. Is it known that nothing of the stream waited then?
@@ -64,23 +65,23 @@ Separates queued id index bound [] = Unit {0}
 Separates queued id zero bound (place ∷ places) = (IsMessageOn queued id place → bound ≤ place) × Separates queued id zero bound places
 Separates queued id (suc index) bound (place ∷ places) = (IsMessageOn queued id place → place < bound) × Separates queued id index bound places
 
--- If no ordered message of the stream has limits that was queued before the reset was asked for, each is among the first ones, up
--- to its index, that was queued since one was asked for before.
+-- Each ordered message of the stream without limits that was queued before the reset was asked for, and since one was before, is
+-- among the first ones, up to its index.
 abbrev pub HaveAllBefore : (ℕ → Bool) → List Message → ℕ → Cut → List ℕ → Type 0
 HaveAllBefore asks queued id cut places =
-    AreUnlimitedFrom queued id 0 cut.place → (place : ℕ) → IsOrderedOn queued id place → place < cut.place → ((count : ℕ) → place < count → count < cut.place → asks count ≡ false) → HasEntry place (take cut.index places)
+    (place : ℕ) (on : IsOrderedOn queued id place) → on.message.is_limited ≡ false → place < cut.place → ((count : ℕ) → place < count → count < cut.place → asks count ≡ false) → HasEntry place (take cut.index places)
 
 -- The reset separates them, and leaves no gap before it. They are all, if nothing waited.
-pub record IsSeparated (asks : ℕ → Bool) (queued : List Message) (id : ℕ) (cut : Cut) (places : List ℕ) : Type 0 where
+pub record IsSeparated (knows : Bool) (asks : ℕ → Bool) (queued : List Message) (id : ℕ) (cut : Cut) (places : List ℕ) : Type 0 where
   pub within : cut.index ≤ length places
   pub separates : Separates queued id cut.index cut.place places
-  pub no_gap : LeaveNoGapBefore asks queued id cut.place places
+  pub no_gap : LeaveNoGapBefore knows asks queued id cut.place places
   pub before : cut.place ≤ length queued
   pub all : cut.is_whole ≡ true → HaveAllBefore asks queued id cut places
 
 -- Each of these resets does.
-abbrev pub AreSeparated : (ℕ → Bool) → List Message → ℕ → List Cut → List ℕ → Type 0
-AreSeparated asks queued id cuts places = (cut : Cut) → HasEntry cut cuts → IsSeparated asks queued id cut places
+abbrev pub AreSeparated : Bool → (ℕ → Bool) → List Message → ℕ → List Cut → List ℕ → Type 0
+AreSeparated knows asks queued id cuts places = (cut : Cut) → HasEntry cut cuts → IsSeparated knows asks queued id cut places
 
 -- ---- what the log of a sender has
 

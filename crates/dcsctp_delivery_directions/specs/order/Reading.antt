@@ -63,8 +63,8 @@ ComeSince history id cuts =
 pub record OrderedStream (watch : Watch) (queued : List Message) (history : History) (id : ℕ) (all waits : List ℕ) (stream : StreamModel) : Type 0 where
   pub order : StreamInOrder queued history id all waits stream
   pub reach : IsInReach stream
-  pub by_epoch : AreReadByEpoch watch.asks queued history id all stream.next
-  pub separated : AreSeparated watch.asks queued id watch.cuts all
+  pub by_epoch : AreReadByEpoch watch.knows_all watch.asks queued history id all stream.next
+  pub separated : AreSeparated watch.knows_all watch.asks queued id watch.cuts all
   pub since : ComeSince history id watch.cuts
 
 -- The piece is one of an ordered message of the stream that was sent since the last reset of that.

@@ -155,6 +155,10 @@ pub record SkipsMessage (history : History) (passed id : ℕ) (is_unordered : Bo
   pub is : mid ≡ piece.mid % 2 ^ 32
   pub within : (mark : Mark) → HasEntry mark history.marks → Resets mark piece.message.stream → number < mark.bound → passed ≤ mark.bound
   pub limited : piece.message.is_limited ≡ true
+  -- The TSN of that piece is passed, and no message of the stream has a higher number, ordered or unordered as it is, of which one
+  -- is passed.
+  pub before : number < passed
+  pub highest : (n : ℕ) (f : Piece) → at_place n history.log ≡ Some (Some f) → n < passed → f.message.stream ≡ id → f.message.is_unordered ≡ is_unordered → f.mid ≤ piece.mid
 
 -- This holds for an entry,
 abbrev pub SkipsEntry : History → ℕ → SkippedTo → Type 0

@@ -19,6 +19,7 @@ use Rattle.dcsctp_spec.specs.queues.Transfer.{Transfer, EndpointQueues}
 use Rattle.dcsctp_spec.specs.endpoint.FlushOutcomes.{Answer, FlushAnswers, flush_of}
 use Rattle.dcsctp_delivery_directions.specs.sending.Log.{Message, Piece, Slot, IsEndSlot, IsLogOfPieces, History, log_extended, with_mark, Mark, Resets, sent_messages, SentMessages}
 use Rattle.dcsctp_delivery_directions.specs.sending.Places.{HasEntry, at_place}
+use Rattle.dcsctp_delivery_directions.specs.sending.Naming.{NamesPassed}
 use Rattle.dcsctp_delivery_directions.specs.sending.Numbers.{stream_named, is_handed_out, AreCurrent, AreKept, NumbersMessages, IsPieceOfKind, IsOfKind}
 use Rattle.dcsctp_delivery_directions.specs.sending.Pieces.{HoldsQueued}
 use Rattle.dcsctp_delivery_directions.specs.sending.Stages.{SaysTsn, Bears, Pends, AreMarks}
@@ -73,18 +74,24 @@ pub record IsEntry (is_interleaved : Bool) (history : History) (passed : ℕ) (e
   pub ssn : is_interleaved ≡ false → entry.1 ≡ piece.ssn
   pub over : is_interleaved ≡ false → history.marks ≡ [] → EndsWithin history.log number passed
   pub limited : piece.message.is_limited ≡ true
+  -- The TSN of that piece is passed.
+  pub before : number < passed
+  -- With interleaving no message of the stream, ordered or unordered as it is, has a higher number of which a TSN is passed.
+  pub highest : is_interleaved ≡ true → (n : ℕ) (f : Piece) → at_place n history.log ≡ Some (Some f) → n < passed
+      → f.message.stream ≡ piece.message.stream → f.message.is_unordered ≡ piece.message.is_unordered → f.mid ≤ piece.mid
 
 -- Each does.
 abbrev pub AreForwardEntries : Bool → History → ℕ → List ((ℕ × Bool) × ℕ) → Type 0
 AreForwardEntries is_interleaved history passed [] = Unit {0}
 AreForwardEntries is_interleaved history passed (entry ∷ entries) = IsEntry is_interleaved history passed entry × AreForwardEntries is_interleaved history passed entries
 
--- A piece of the log is of a message that may be abandoned (RFC 3758).
-pub record HasLimited (log : List Slot) : Type 0 where
+-- A piece of the log is of a message that may be abandoned (RFC 3758), and was sent so.
+pub record HasLimited (is_interleaved : Bool) (log : List Slot) : Type 0 where
   pub number : ℕ
   pub piece : Piece
   pub at : at_place number log ≡ Some (Some piece)
   pub limited : piece.message.is_limited ≡ true
+  pub kind : piece.is_interleaved ≡ is_interleaved
 
 -- Of these TSNs each that carries a piece of a message without limits is acknowledged.
 abbrev pub PassesAcknowledged : List Slot → ℕ → ℕ → Type 0
@@ -98,8 +105,9 @@ pub record IsForward (is_interleaved : Bool) (history : History) (first acknowle
   pub entries : List ((ℕ × Bool) × ℕ)
   pub is : streams ≡ flat_map (entry_bytes is_interleaved) entries
   pub names : AreForwardEntries is_interleaved history passed.passed entries
-  pub limited : HasLimited history.log
+  pub limited : HasLimited is_interleaved history.log
   pub reliable : PassesAcknowledged history.log acknowledged passed.passed
+  pub each : is_interleaved ≡ true → NamesPassed history.log acknowledged passed.passed entries
 
 -- A chunk of data carries what its TSN carries, and one that passes TSNs passes assigned ones.
 abbrev pub SaysPlain : History → ℕ → ℕ → Plain → Type 0

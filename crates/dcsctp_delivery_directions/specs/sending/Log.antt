@@ -51,9 +51,16 @@ abbrev pub IsEndSlot : Slot → Type 0
 IsEndSlot None = Unit {0}
 IsEndSlot (Some piece) = is_end piece ≡ true
 
--- Its message ends with it, or may be abandoned.
-abbrev pub IsEndOrLimited : Piece → Type 0
-IsEndOrLimited piece = (is_end piece ≡ true) ⊎ (piece.message.is_limited ≡ true)
+-- The TSN right after the piece has the end of its message, which was abandoned (RFC 3758).
+pub record IsClosed (log : List Slot) (piece : Piece) : Type 0 where
+  pub offset : ℕ
+  pub at : at_place offset log ≡ Some (Some piece)
+  pub end : at_place (offset + 1) log ≡ Some None
+  pub limited : piece.message.is_limited ≡ true
+
+-- Its message ends with it, or right after it.
+abbrev pub IsEndOrClosed : List Slot → Piece → Type 0
+IsEndOrClosed log piece = (is_end piece ≡ true) ⊎ IsClosed log piece
 
 abbrev pub piece_bytes : Piece → List ℕ
 piece_bytes piece = take piece.size (drop piece.start piece.message.payload)
@@ -118,7 +125,7 @@ HasEarlier log number piece = (IsInRow piece × (0 < number)) ⊎ IsAfterPiece l
 -- with interleaving the first of a stream, may carry the rest of a message whose beginning was sent in an earlier one. Of two
 -- messages of a stream the one that is begun later was queued later, and with interleaving has the higher number, if both are
 -- ordered or both unordered. Right after a piece an end without one is that of its message, which may be abandoned. On each stream a
--- message is begun only once the one before has ended, if that may not be abandoned.
+-- message is begun only once the one before has ended, or was abandoned.
 pub record IsLogOfPieces (queued : List Message) (log : List Slot) : Type 0 where
   pub pieces : (n : ℕ) (f : Piece) → at_place n log ≡ Some (Some f) → IsPiece queued f
   pub rows : (n : ℕ) (f : Piece) → at_place n log ≡ Some (Some f) → 0 < f.start → HasEarlier log n f → HasBefore log n f
@@ -128,7 +135,7 @@ pub record IsLogOfPieces (queued : List Message) (log : List Slot) : Type 0 wher
       → f.message.stream ≡ g.message.stream → f.message.is_unordered ≡ g.message.is_unordered → f.mid < g.mid
   pub shuts : (n : ℕ) (f : Piece) → at_place n log ≡ Some (Some f) → at_place (n + 1) log ≡ Some None → f.message.is_limited ≡ true
   pub ends : (m n : ℕ) (f g : Piece) → m < n → at_place m log ≡ Some (Some f) → at_place n log ≡ Some (Some g) → f.message.stream ≡ g.message.stream → g.start ≡ 0
-      → ((k : ℕ) (h : Piece) → m < k → k < n → at_place k log ≡ Some (Some h) → h.message.stream ≡ g.message.stream → ⊥) → IsEndOrLimited f
+      → ((k : ℕ) (h : Piece) → m < k → k < n → at_place k log ≡ Some (Some h) → h.message.stream ≡ g.message.stream → ⊥) → IsEndOrClosed log f
 
 -- ---- what the sender of an association has done
 

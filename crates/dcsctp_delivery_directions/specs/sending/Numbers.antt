@@ -10,7 +10,7 @@ use Rattle.dcsctp_spec.specs.types.queues.SendStreams.{Waiting, Stream, front_of
 use Rattle.dcsctp_spec.specs.queues.SendQueue.{SendQueueState, stream_found, queue_interleaves}
 use Rattle.dcsctp_spec.specs.queues.Transfer.{Transfer}
 use Rattle.dcsctp_delivery_directions.specs.sending.Places.{HasEntry, at_place}
-use Rattle.dcsctp_delivery_directions.specs.sending.Log.{Piece, Slot, Mark, newest, newest_on, IsNewestOn, is_end, History, Resets, IsEndOrLimited}
+use Rattle.dcsctp_delivery_directions.specs.sending.Log.{Piece, Slot, Mark, newest, newest_on, IsNewestOn, is_end, History, Resets, IsEndOrClosed}
 use Rattle.dcsctp_delivery_directions.specs.sending.Turns.{begun_on, turn_of_tsn, IsSsnOfTurn}
 use Rattle.dcsctp_spec.specs.queues.Sending.{may_be_abandoned}
 
@@ -138,9 +138,9 @@ AreOfKind is_interleaved log = (n : ℕ) (f : Piece) → at_place n log ≡ Some
 abbrev pub IsPieceOfKind : Bool → List Slot → ℕ → Type 0
 IsPieceOfKind is_interleaved log number = (f : Piece) → at_place number log ≡ Some (Some f) → f.is_interleaved ≡ is_interleaved
 
--- Where no message is under way, the stream's newest piece ends one, or is of one that may be abandoned.
+-- Where no message is under way, the stream's newest piece ends one, or is of one that was abandoned.
 abbrev pub RestAtEnds : List Slot → List Stream → Type 0
-RestAtEnds log streams = (id : ℕ) → (stream_named id streams).under_way ≡ None → (f : Piece) → newest_on id log ≡ Some f → IsEndOrLimited f
+RestAtEnds log streams = (id : ℕ) → (stream_named id streams).under_way ≡ None → (f : Piece) → newest_on id log ≡ Some f → IsEndOrClosed log f
 
 -- So the messages of a queue are numbered.
 pub record NumbersMessages (history : History) (queue : SendQueueState) : Type 0 where

@@ -10,7 +10,7 @@ use Rattle.dcsctp_spec.specs.queues.Sending.{Fragment, TakesFragment, may_be_aba
 use Rattle.dcsctp_delivery_directions.specs.sending.Places.{at_place}
 use Rattle.dcsctp_delivery_directions.specs.sending.Weights.{HasRoomForLog}
 use Rattle.dcsctp_delivery_directions.specs.sending.Numbers.{stream_named, is_handed_out, IsCurrent, NumbersMessages}
-use Rattle.dcsctp_delivery_directions.specs.sending.Log.{Message, Piece, Slot, newest_on, is_beginning, is_end, piece_bytes, IsPiece, HasBefore, HasEarlier, History, with_slot, IsEndOrLimited}
+use Rattle.dcsctp_delivery_directions.specs.sending.Log.{Message, Piece, Slot, newest_on, is_beginning, is_end, piece_bytes, IsPiece, HasBefore, HasEarlier, History, with_slot, IsEndOrClosed}
 
 -- A message that may not be abandoned has no limits (RFC 3758).
 abbrev pub HasNoLimits : Bool → Option ℕ → Option ℕ → Type 0
@@ -116,7 +116,7 @@ pub record HandsOutPiece (queued : List Message) (history : History) (part : Fra
   pub climbs : (n : ℕ) (f : Piece) → at_place n history.log ≡ Some (Some f) → piece.start ≡ 0 → piece.is_interleaved ≡ true → f.message.stream ≡ piece.message.stream
       → f.message.is_unordered ≡ piece.message.is_unordered → f.mid < piece.mid
   pub ends : (n : ℕ) (f : Piece) → at_place n history.log ≡ Some (Some f) → piece.start ≡ 0 → f.message.stream ≡ piece.message.stream
-      → ((k : ℕ) (h : Piece) → n < k → at_place k history.log ≡ Some (Some h) → h.message.stream ≡ piece.message.stream → ⊥) → IsEndOrLimited f
+      → ((k : ℕ) (h : Piece) → n < k → at_place k history.log ≡ Some (Some h) → h.message.stream ≡ piece.message.stream → ⊥) → IsEndOrClosed history.log f
   pub says : CarriesPiece part piece
   pub queue_holds : HoldsQueued queued (Some piece ∷ history.log) new.streams
   pub numbers : NumbersMessages (with_slot (Some piece) history) new

@@ -33,6 +33,8 @@ pub record IsNamedFragment (history : History) (own : ℕ) (part : Fragment) : T
   pub mid : part.mid % 2 ^ 32 ≡ piece.mid % 2 ^ 32
   pub ssn : part.ssn ≡ piece.ssn
   pub up_to : number ≤ own
+  -- What the TSNs after that piece carry, up to this one, is of the same message.
+  pub tail : (k : ℕ) (f : Piece) → number < k → k ≤ own → at_place k history.log ≡ Some (Some f) → f.place ≡ piece.place
   pub limits : HasNoLimits piece.message.is_limited part.expires_at part.max_retransmissions
 
 -- The fragment is of the message of a piece of the log, and that may be abandoned (RFC 3758).

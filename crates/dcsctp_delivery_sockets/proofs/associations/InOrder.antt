@@ -1,6 +1,6 @@
 -- What was read in one association, in the order in which it was queued.
 use Rattle.std.proofs.Common.{◌≡◌, ◌≢◌, ℕ, zero, suc, ◌<◌, ◌≤◌, ◌^◌, ◌+◌, Some, List, [], ◌∷◌, length, true, false, refl, sym, ◌∙◌, ap, arith, subst, inl, inr}
-use Rattle.std.specs.Prelude.{◌⊎◌, Bool}
+use Rattle.std.specs.Prelude.{◌⊎◌, Bool, nat_le}
 use Rattle.dcsctp_spec_lemmas.specs.types.declared.options.Options.{Options}
 use Rattle.dcsctp_spec_lemmas.specs.types.queues.Messages.{MessageContent}
 use Rattle.dcsctp_spec_lemmas.specs.spec.endpoint.Endpoint.{Endpoint}
@@ -123,26 +123,35 @@ below_at place (mark ∷ marks) below =
           record { mark = m.mark; at = at_stays place mark m.mark marks m.at }
     ]
 
+-- A message that was marked has limits where the other has.
+is_spared : (marks queued : List Message) (id place : ℕ) (found : AllFound marks queued) (first : MarkAt marks place) (on : IsOrderedOn queued id place) → on.message.is_limited ≡ false → (is_ordered marks queued id place found first on).message.is_limited ≡ false
+unfolding is_ordered
+is_spared marks queued id place found first on spared =
+    let f = found place first.mark first.at in
+    let two : Some f.message ≡ Some on.message = sym f.at ∙ on.at in
+    let same : f.message ≡ on.message = same_message two in
+    f.is.limited ∙ ap (λ (m : Message). m.is_limited) same ∙ spared
+
 -- Messages of one epoch that are read leave no gap, marked or not.
-before_unmarked : (marks queued : List Message) (contents : List MessageContent) (places : List ℕ) (asks : ℕ → Bool) (id end : ℕ) → AllFound marks queued → WereQueued marks places contents → LeaveNoGapBefore asks marks id end places
-    → LeaveNoGapBefore asks queued id end places
-before_unmarked marks queued contents places asks id end found were gap earlier later has on on' before less one free =
+before_unmarked : (marks queued : List Message) (contents : List MessageContent) (places : List ℕ) (knows : Bool) (asks : ℕ → Bool) (id end : ℕ) → AllFound marks queued → WereQueued marks places contents → LeaveNoGapBefore knows asks marks id end places
+    → LeaveNoGapBefore knows asks queued id end places
+before_unmarked marks queued contents places knows asks id end found were gap earlier later has on on' spared before less one free =
     let m = mark_at marks later places contents were has in
     let first = below_at earlier marks (let below = at_below later m.mark marks m.at in omega (arith, before, below)) in
-    gap earlier later has (is_ordered marks queued id later found m on) (is_ordered marks queued id earlier found first on') before less one
-    (λ place from to mine. (let f = found place mine.message mine.at in f.is.limited ∙ free place from to (record { message = f.message; at = f.at; stream = sym f.is.stream ∙ mine.stream; ordered = sym f.is.unordered ∙ mine.ordered })))
+    gap earlier later has (is_ordered marks queued id later found m on) (is_ordered marks queued id earlier found first on') (is_spared marks queued id earlier found first on' spared) before less one
+    (λ unknown place from to mine. (let f = found place mine.message mine.at in f.is.limited ∙ free unknown place from to (record { message = f.message; at = f.at; stream = sym f.is.stream ∙ mine.stream; ordered = sym f.is.unordered ∙ mine.ordered })))
 
 -- So it is where it is less known what the sender began with.
-cut_if : (whole all : Bool) (asks fulls : ℕ → ℕ → Bool) (performed : List PerformedReset) (queued : List Message) (contents : List MessageContent) → (whole ≡ true → all ≡ true) → AreCutAsAsked all asks fulls performed queued contents → AreCutAsAsked whole asks fulls performed queued contents
-cut_if whole all asks fulls performed queued contents so d =
+cut_if : (whole all sized : Bool) (asks fulls : ℕ → ℕ → Bool) (performed : List PerformedReset) (queued : List Message) (contents : List MessageContent) → (whole ≡ true → all ≡ true) → AreCutAsAsked all sized asks fulls performed queued contents → AreCutAsAsked whole sized asks fulls performed queued contents
+cut_if whole all sized asks fulls performed queued contents so d =
     record {
       ordered = d.ordered;
       cut = λ id reset has names. (let c = d.cut id reset has names in record { place = c.place; asked = c.asked; before = c.before; separates = c.separates; no_gap = λ is. c.no_gap (so is); all = λ is. c.all (so is) });
       no_gap = λ is. d.no_gap (so is);
     }
 
-cut_unmarked : (whole : Bool) (asks fulls : ℕ → ℕ → Bool) (performed : List PerformedReset) (marks queued : List Message) (contents : List MessageContent) → AllFound marks queued → length marks ≤ length queued → AreCutAsAsked whole asks fulls performed marks contents → AreCutAsAsked whole asks fulls performed queued contents
-cut_unmarked whole asks fulls performed marks queued contents found short d =
+cut_unmarked : (whole sized : Bool) (asks fulls : ℕ → ℕ → Bool) (performed : List PerformedReset) (marks queued : List Message) (contents : List MessageContent) → AllFound marks queued → length marks ≤ length queued → AreCutAsAsked whole sized asks fulls performed marks contents → AreCutAsAsked whole sized asks fulls performed queued contents
+cut_unmarked whole sized asks fulls performed marks queued contents found short d =
     record {
       ordered = in_order_unmarked marks queued contents found d.ordered;
       cut = λ id reset has names. (
@@ -151,19 +160,18 @@ cut_unmarked whole asks fulls performed marks queued contents found short d =
             place = c.place;
             asked = c.asked;
             separates = separate_unmarked marks queued id reset.index c.place d.ordered.delivered.places contents found d.ordered.delivered.were_queued c.separates;
-            no_gap = λ is. before_unmarked marks queued contents d.ordered.delivered.places (asks id) id c.place found d.ordered.delivered.were_queued (c.no_gap is);
+            no_gap = λ is. before_unmarked marks queued contents d.ordered.delivered.places sized (asks id) id c.place found d.ordered.delivered.were_queued (c.no_gap is);
             before = (let before = c.before in omega (arith, before, short));
-            all = λ is full low free place on below one. (
+            all = λ is full low place on free below one. (
                 let first = below_at place marks (let before = c.before in omega (arith, below, before)) in
-                c.all is full low (λ p from to mine. (let f = found p mine.message mine.at in f.is.limited ∙ free p from to (record { message = f.message; at = f.at; stream = sym f.is.stream ∙ mine.stream; ordered = sym f.is.unordered ∙ mine.ordered })))
-                place (is_ordered marks queued id place found first on) below one
+                c.all is full low place (is_ordered marks queued id place found first on) (is_spared marks queued id place found first on free) below one
                 );
           }
           );
-      no_gap = λ is id earlier later has on on' before less one free. (
+      no_gap = λ is id earlier later has on on' spared before less one free. (
           let m = mark_at marks later d.ordered.delivered.places contents d.ordered.delivered.were_queued has in
-          before_unmarked marks queued contents d.ordered.delivered.places (asks id) id (length marks) found d.ordered.delivered.were_queued (d.no_gap is id) earlier later has on on' before (at_below later m.mark marks m.at) one
-          (λ place from to. free place from (omega (arith, to, short)))
+          before_unmarked marks queued contents d.ordered.delivered.places sized (asks id) id (length marks) found d.ordered.delivered.were_queued (d.no_gap is id) earlier later has on on' spared before (at_below later m.mark marks m.at) one
+          (λ unknown place from to. free unknown place from (omega (arith, to, short)))
           );
     }
 
@@ -319,20 +327,24 @@ module _ (options : Options) (ends : Ends) (e : Endpoint) (queued : List Message
   abbrev full_calls : ℕ → ℕ → Bool
   full_calls = full_asks ends.calls.empties options.max_receiver_window_buffer_size
 
+  -- is the receive window of 2^63 bytes or less?
+  abbrev room_known : Bool
+  room_known = nat_le options.max_receiver_window_buffer_size (2 ^ 63)
+
   -- The resets of this tag are cuts, without gaps if that is known of its sender.
   cut_so : (whole : Bool) (tag : ℕ) → (tag ≢ 0 → whole ≡ true → (ends.sends tag).beginning.has_all ≡ true) → NumbersFromZero e past tag → InterleavesUnder past tag
-      → AreCutAsAsked whole ends.calls.asks full_calls (ends.gets tag).performed queued (with_key tag reading.reads)
+      → AreCutAsAsked whole room_known ends.calls.asks full_calls (ends.gets tag).performed queued (with_key tag reading.reads)
   cut_so whole tag all anew interleaves =
       elim (decide tag 0) [
         | inl nought ↦ uncut (none_at_zero tag nought) (nothing_performed tag (inl nought))
         | inr some ↦ elim (h.sender.kinds tag some) [
           | inl waits ↦ uncut (none_awaited tag waits) (nothing_performed tag (inr waits))
           | inr had ↦
-              cut_unmarked whole ends.calls.asks full_calls (ends.gets tag).performed (ends.sends tag).queued queued (with_key tag reading.reads) (h.sender.marks tag) (h.sender.short tag)
-              (cut_if whole (ends.sends tag).beginning.has_all ends.calls.asks full_calls (ends.gets tag).performed (ends.sends tag).queued (with_key tag reading.reads) (all some)
-              (subst (AreCutAsAsked (ends.sends tag).beginning.has_all ends.calls.asks full_calls (ends.gets tag).performed (ends.sends tag).queued) (sym (h.receiver.were_read tag))
-              (subst (λ (asks : ℕ → ℕ → Bool). AreCutAsAsked (ends.sends tag).beginning.has_all asks full_calls (ends.gets tag).performed (ends.sends tag).queued (ends.gets tag).read) (h.dropping tag).asks
-              (subst (λ (empties : ℕ → ℕ → Bool). AreCutAsAsked (ends.sends tag).beginning.has_all (ends.sends tag).beginning.asks (full_asks empties options.max_receiver_window_buffer_size) (ends.gets tag).performed (ends.sends tag).queued (ends.gets tag).read) (h.dropping tag).empties
+              cut_unmarked whole room_known ends.calls.asks full_calls (ends.gets tag).performed (ends.sends tag).queued queued (with_key tag reading.reads) (h.sender.marks tag) (h.sender.short tag)
+              (cut_if whole (ends.sends tag).beginning.has_all room_known ends.calls.asks full_calls (ends.gets tag).performed (ends.sends tag).queued (with_key tag reading.reads) (all some)
+              (subst (AreCutAsAsked (ends.sends tag).beginning.has_all room_known ends.calls.asks full_calls (ends.gets tag).performed (ends.sends tag).queued) (sym (h.receiver.were_read tag))
+              (subst (λ (asks : ℕ → ℕ → Bool). AreCutAsAsked (ends.sends tag).beginning.has_all room_known asks full_calls (ends.gets tag).performed (ends.sends tag).queued (ends.gets tag).read) (h.dropping tag).asks
+              (subst (λ (empties : ℕ → ℕ → Bool). AreCutAsAsked (ends.sends tag).beginning.has_all room_known (ends.sends tag).beginning.asks (full_asks empties options.max_receiver_window_buffer_size) (ends.gets tag).performed (ends.sends tag).queued (ends.gets tag).read) (h.dropping tag).empties
               (directions_cut_as_asked options (ends.firsts tag) options.max_receiver_window_buffer_size (own tag) (h.runs tag) (h.small tag) (little tag) (short tag)
               (sym (had.kind_is interleaves.0 interleaves.1 interleaves.2) ∙ interleaves.3) (h.numbered tag some anew))))))
         ]
@@ -343,7 +355,7 @@ module _ (options : Options) (ends : Ends) (e : Endpoint) (queued : List Message
       no_place (p ∷ places) [] none were place has = were
       no_place (p ∷ places) (c ∷ contents) none were place has = absurd (cc)
 
-      uncut : with_key tag reading.reads ≡ [] → (ends.gets tag).performed ≡ [] → AreCutAsAsked whole ends.calls.asks full_calls (ends.gets tag).performed queued (with_key tag reading.reads)
+      uncut : with_key tag reading.reads ≡ [] → (ends.gets tag).performed ≡ [] → AreCutAsAsked whole room_known ends.calls.asks full_calls (ends.gets tag).performed queued (with_key tag reading.reads)
       uncut none none' =
           let ordered : AreDeliveredInOrder queued (with_key tag reading.reads) = nothing_in_order queued (with_key tag reading.reads) none in
           record {
@@ -352,10 +364,10 @@ module _ (options : Options) (ends : Ends) (e : Endpoint) (queued : List Message
             no_gap = λ is id earlier later has. absurd (no_place ordered.delivered.places (with_key tag reading.reads) none ordered.delivered.were_queued later has);
           }
 
-  pub ends_cut_as_asked : (tag : ℕ) → NumbersFromZero e past tag → InterleavesUnder past tag → AreCutAsAsked false ends.calls.asks full_calls (ends.gets tag).performed queued (with_key tag reading.reads)
+  pub ends_cut_as_asked : (tag : ℕ) → NumbersFromZero e past tag → InterleavesUnder past tag → AreCutAsAsked false room_known ends.calls.asks full_calls (ends.gets tag).performed queued (with_key tag reading.reads)
   ends_cut_as_asked tag = cut_so false tag (λ some is. absurd (cc))
 
-  pub ends_cut_without_gaps : (tag : ℕ) → IsOnlyOwn past tag → InterleavesUnder past tag → AreCutAsAsked true ends.calls.asks full_calls (ends.gets tag).performed queued (with_key tag reading.reads)
+  pub ends_cut_without_gaps : (tag : ℕ) → IsOnlyOwn past tag → InterleavesUnder past tag → AreCutAsAsked true room_known ends.calls.asks full_calls (ends.gets tag).performed queued (with_key tag reading.reads)
   ends_cut_without_gaps tag only = cut_so true tag (λ some is. (h.kept tag some only).whole) (inr only)
 
   pub ends_deliver_by_stream : (tag : ℕ) → IsOnlyOwn past tag → InterleavesUnder past tag → AreDeliveredByStream ends.calls.never queued (with_key tag reading.reads)

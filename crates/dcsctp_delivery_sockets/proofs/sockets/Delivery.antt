@@ -164,13 +164,13 @@ module _ (law : Below) (reset_calls their_reset_calls : ResetCalls) (mine theirs
 
 -- ---- a run
 
-record BothStand (reset_calls : Both ResetCalls) (options : Both Options) (turns : Both (List Transition)) : Type 0 where
-  to_b : Stand reset_calls.a options.a options.b turns.a turns.b
-  to_a : Stand reset_calls.b options.b options.a turns.b turns.a
-  a_stands : StandsSo (endpoint_after options.a turns.a) (recorded_past turns.a)
-  b_stands : StandsSo (endpoint_after options.b turns.b) (recorded_past turns.b)
-  a_resets : AllSeen (events_of turns.b) turns.a
-  b_resets : AllSeen (events_of turns.a) turns.b
+pub record BothStand (reset_calls : Both ResetCalls) (options : Both Options) (turns : Both (List Transition)) : Type 0 where
+  pub to_b : Stand reset_calls.a options.a options.b turns.a turns.b
+  pub to_a : Stand reset_calls.b options.b options.a turns.b turns.a
+  pub a_stands : StandsSo (endpoint_after options.a turns.a) (recorded_past turns.a)
+  pub b_stands : StandsSo (endpoint_after options.b turns.b) (recorded_past turns.b)
+  pub a_resets : AllSeen (events_of turns.b) turns.a
+  pub b_resets : AllSeen (events_of turns.a) turns.b
 
 stepped : Below → (reset_calls : Both ResetCalls) (options : Both Options) (turns : Both (List Transition)) (step : StepContent) (more : List Transition) (side : Side) → AreUsable options → Joined options turns → BothKnown reset_calls options (side_turns_added side more turns)
     → BothPerformed (side_turns_added side more turns) → FitsStep step → BothStand reset_calls options turns → StepTurns (endpoint_after (of_side side options) (of_side side turns)) (packets_shown (of_other side options) (of_other side turns)) step more
@@ -229,7 +229,7 @@ good_all [] sendable goes = tt
 good_all (event ∷ events) sendable goes = (good_one event sendable.0 goes.0, good_all events sendable.1 goes.1)
 
 -- does its user never reset the stream?
-abbrev resets_none : List Transition → ℕ → Bool
+abbrev pub resets_none : List Transition → ℕ → Bool
 resets_none [] stream = true
 resets_none (turn ∷ turns) stream = not (resets_stream stream turn.input) && resets_none turns stream
 
@@ -279,13 +279,13 @@ none_of_all stream [] each = tt
 none_of_all stream (turn ∷ turns) each = (not_this turn.input stream each.0, none_of_all stream turns each.1)
 
 -- the resets that a user asks for by these turns
-abbrev calls_of : Options → List Transition → ResetCalls
+abbrev pub calls_of : Options → List Transition → ResetCalls
 calls_of options turns = record { never = resets_none turns; asks = asked_through (fresh_endpoint options) [] turns; empties = emptied_through (fresh_endpoint options) [] turns }
 
-abbrev both_calls : Both Options → Both (List Transition) → Both ResetCalls
+abbrev pub both_calls : Both Options → Both (List Transition) → Both ResetCalls
 both_calls options turns = record { a = calls_of options.a turns.a; b = calls_of options.b turns.b }
 
-both_known : DeliveryLaws → SocketsReportEffects → (options : Both Options) (run : List PerformedAct) → AreUsable options → SocketRun options run → AreHonest (acts_of run) → AreFresh (turns_after run) → TurnsAllowDelivery options (turns_after run)
+pub both_known : DeliveryLaws → SocketsReportEffects → (options : Both Options) (run : List PerformedAct) → AreUsable options → SocketRun options run → AreHonest (acts_of run) → AreFresh (turns_after run) → TurnsAllowDelivery options (turns_after run)
     → BothKnown (both_calls options (turns_after run)) options (turns_after run)
 both_known law told options run are runs honest fresh allows =
     let j : Joined options (turns_after run) = joined law.below options run are runs honest in
@@ -321,7 +321,7 @@ both_known law told options run are runs honest fresh allows =
 
 module _ (reset_calls : ResetCalls) (mine theirs : Options) (turns others : List Transition) (little : SendsLittle mine turns) (together : SendsLittleTogether turns) (h : Stand reset_calls mine theirs turns others)
     (window : theirs.max_receiver_window_buffer_size < 2 ^ 32) (each : Each (IsOfNewTagsBut mine (recorded_past others)) (recorded_past turns)) (their_each : Each (IsOfNewTagsBut theirs (recorded_past turns)) (recorded_past others)) where
-  few_went : (tag : ℕ) → chunks_before (h.ends.former tag) (packets_of turns) + chunks_to (h.ends.latest tag) (packets_of turns) < 2 ^ 30
+  pub few_went : (tag : ℕ) → chunks_before (h.ends.former tag) (packets_of turns) + chunks_to (h.ends.latest tag) (packets_of turns) < 2 ^ 30
   few_went tag = go (h.ends.former tag) refl
     where
       go : (former : Option ℕ) → h.ends.former tag ≡ former → chunks_before (h.ends.former tag) (packets_of turns) + chunks_to (h.ends.latest tag) (packets_of turns) < 2 ^ 30
@@ -493,9 +493,14 @@ module _ (reset_calls : ResetCalls) (mine theirs : Options) (turns others : List
       is_in_epochs reset_calls mine theirs turns others h (few_queued mine turns little) few_went (peers_differ mine (recorded_past others) (recorded_past turns) each) (peers_differ theirs (recorded_past turns) (recorded_past others) their_each)
       sent_all sent_same asked tag only interleaves empties (elim (leb_tells theirs.max_receiver_window_buffer_size (2 ^ 63)) [ inl e ↦ e.0 | inr e ↦ absurd (let beyond = e.1 in omega (arith, beyond, window)) ])
 
+-- So both directions stand at the end of such a run.
+pub sockets_stand : DeliveryLaws → SocketsReportEffects → (options : Both Options) (run : List PerformedAct) → AreUsable options → AreInMemory (acts_of run) → SocketRun options run → AreHonest (acts_of run) → AreFresh (turns_after run)
+    → TurnsAllowDelivery options (turns_after run) → BothStand (both_calls options (turns_after run)) options (turns_after run)
+sockets_stand law told options run are in_memory runs honest fresh allows =
+    both_stand law.below law.answers (both_calls options (turns_after run)) options run are runs honest fresh in_memory (both_known law told options run are runs honest fresh allows)
+
 pub sockets_deliver : DeliveryLaws → SocketsReportEffects → SocketsDeliver
-sockets_deliver law told options run are in_memory runs honest fresh allows side =
-    both_deliver (both_stand law.below law.answers (both_calls options turns) options run are runs honest fresh in_memory known) side
+sockets_deliver law told options run are in_memory runs honest fresh allows side = both_deliver (sockets_stand law told options run are in_memory runs honest fresh allows) side
   where
     turns : Both (List Transition)
     turns = turns_after run

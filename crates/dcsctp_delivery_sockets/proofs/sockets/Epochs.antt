@@ -23,7 +23,7 @@ use Rattle.dcsctp_delivery_sockets.specs.sockets.Ordered.{HasOneTag, StartsAtZer
 use Rattle.dcsctp_delivery_sockets.specs.sockets.Packets.{reading_through}
 use Rattle.dcsctp_delivery_sockets.proofs.sockets.Stands.{Stand, queued_of, packets_of, reading_of, reading_more}
 use Rattle.dcsctp_delivery_sockets.proofs.sockets.ToldResets.{told_report, reads_more}
-use Rattle.dcsctp_delivery_sockets.proofs.sockets.UserMessages.{SaysSame, ordered_on, message_on, sent_on, is_in_order}
+use Rattle.dcsctp_delivery_sockets.proofs.sockets.UserMessages.{SaysSame, ordered_on, spared_on, message_on, is_in_order}
 
 -- What separates what was queued splits what was sent.
 split_of : (queued : List Message) (sent : List Sending) (same : SaysSame (λ sending. sending) queued sent) (stream index count : ℕ) (places : List ℕ) → Separates queued stream index count places → AreSplit sent stream index count places
@@ -33,10 +33,10 @@ split_of queued sent same stream (suc index) count (place ∷ places) apart = ((
 
 -- What leaves no gap in what was queued leaves none in what was sent.
 no_gap_of : (queued : List Message) (sent : List Sending) (same : SaysSame (λ sending. sending) queued sent) (stream end : ℕ) (places : List ℕ) (asks : ℕ → Bool) (asked : ℕ → Type 0) → ((count : ℕ) → asks count ≡ true → asked count)
-    → LeaveNoGapBefore asks queued stream end places → HaveNoGapBefore asked sent stream end places
-no_gap_of queued sent same stream end places asks asked calls gap earlier later has on on' before less one free =
-    gap earlier later has (ordered_on queued sent same stream later on) (ordered_on queued sent same stream earlier on') before less (λ count from to. unasked count (asks count) refl from to)
-    (λ place from to mine. (let was = sent_on queued sent same stream place mine in was.limits ∙ free place from to was.on))
+    → LeaveNoGapBefore true asks queued stream end places → HaveNoGapBefore asked sent stream end places
+no_gap_of queued sent same stream end places asks asked calls gap earlier later has on on' spared before less one =
+    gap earlier later has (ordered_on queued sent same stream later on) (ordered_on queued sent same stream earlier on') (spared_on queued sent same stream earlier on' spared) before less (λ count from to. unasked count (asks count) refl from to)
+    (λ unknown. absurd (cc))
   where
     unasked : (count : ℕ) (b : Bool) → asks count ≡ b → earlier < count → count ≤ later → b ≡ false
     unasked count false is from to = refl
@@ -49,8 +49,8 @@ nothing_taken place (suc index) places low has = absurd (omega (arith, low))
 -- What has all of what was queued has all of what was sent.
 all_of : (queued : List Message) (sent : List Sending) (same : SaysSame (λ sending. sending) queued sent) (stream index count : ℕ) (places : List ℕ) (asks : ℕ → Bool) (asked : ℕ → Type 0) → ((other : ℕ) → asks other ≡ true → asked other)
     → directions.HaveAllBefore asks queued stream (record { index = index; place = count; is_whole = true }) places → AreReadBefore asked sent stream index count places
-all_of queued sent same stream index count places asks asked calls all free place on below one =
-    all (λ p from to mine. (let was = sent_on queued sent same stream p mine in was.limits ∙ free p from to was.on)) place (ordered_on queued sent same stream place on) below (λ other from to. unasked other (asks other) refl from to)
+all_of queued sent same stream index count places asks asked calls all place on free below one =
+    all place (ordered_on queued sent same stream place on) (spared_on queued sent same stream place on free) below (λ other from to. unasked other (asks other) refl from to)
   where
     unasked : (other : ℕ) (b : Bool) → asks other ≡ b → place < other → other < count → b ≡ false
     unasked other false is from to = refl
@@ -112,9 +112,9 @@ module _ (reset_calls : ResetCalls) (mine theirs : Options) (turns others : List
     Delivered read = IsDeliveredByEpoch (HasReset mine turns) (ReportsPeerReset theirs others tag) sent read
 
     -- what is performed under a tag of the sender
-    cuts : (key : ℕ) → HadBoth (recorded_past turns) key tag → AreCutAsAsked false reset_calls.asks (full_asks reset_calls.empties theirs.max_receiver_window_buffer_size) (h.ends.gets key).performed (queued_of mine turns) (with_key key (reading_of theirs others).reads)
+    cuts : (key : ℕ) → HadBoth (recorded_past turns) key tag → AreCutAsAsked false (nat_le theirs.max_receiver_window_buffer_size (2 ^ 63)) reset_calls.asks (full_asks reset_calls.empties theirs.max_receiver_window_buffer_size) (h.ends.gets key).performed (queued_of mine turns) (with_key key (reading_of theirs others).reads)
     cuts key both =
-        subst (λ (calls : ResetCalls). AreCutAsAsked false calls.asks (full_asks calls.empties theirs.max_receiver_window_buffer_size) (h.ends.gets key).performed (queued_of mine turns) (with_key key (reading_of theirs others).reads)) h.is
+        subst (λ (calls : ResetCalls). AreCutAsAsked false (nat_le theirs.max_receiver_window_buffer_size (2 ^ 63)) calls.asks (full_asks calls.empties theirs.max_receiver_window_buffer_size) (h.ends.gets key).performed (queued_of mine turns) (with_key key (reading_of theirs others).reads)) h.is
         (ends_cut_as_asked theirs h.ends (endpoint_after mine turns) (queued_of mine turns) (recorded_past turns) (packets_of turns) (endpoint_after theirs others) (recorded_past others) (reading_of theirs others) h.between
         few went key anew (both.link, both.held, both.tag_is, interleaves both.link both.held both.peer_is))
       where
@@ -164,14 +164,17 @@ module _ (reset_calls : ResetCalls) (mine theirs : Options) (turns others : List
     abbrev InEpochs : List MessageContent → Type 0
     InEpochs read = IsDeliveredInEpochs (HasReset mine turns) (ResetsWithNoneWaiting mine turns) (ReportsPeerReset theirs others tag) sent read
 
-    whole_cuts : (key : ℕ) → HadBoth (recorded_past turns) key tag → AreCutAsAsked true reset_calls.asks (full_asks reset_calls.empties theirs.max_receiver_window_buffer_size) (h.ends.gets key).performed (queued_of mine turns) (with_key key (reading_of theirs others).reads)
+    whole_cuts : (key : ℕ) → HadBoth (recorded_past turns) key tag → AreCutAsAsked true (nat_le theirs.max_receiver_window_buffer_size (2 ^ 63)) reset_calls.asks (full_asks reset_calls.empties theirs.max_receiver_window_buffer_size) (h.ends.gets key).performed (queued_of mine turns) (with_key key (reading_of theirs others).reads)
     whole_cuts key both =
-        subst (λ (calls : ResetCalls). AreCutAsAsked true calls.asks (full_asks calls.empties theirs.max_receiver_window_buffer_size) (h.ends.gets key).performed (queued_of mine turns) (with_key key (reading_of theirs others).reads)) h.is
+        subst (λ (calls : ResetCalls). AreCutAsAsked true (nat_le theirs.max_receiver_window_buffer_size (2 ^ 63)) calls.asks (full_asks calls.empties theirs.max_receiver_window_buffer_size) (h.ends.gets key).performed (queued_of mine turns) (with_key key (reading_of theirs others).reads)) h.is
         (ends_cut_without_gaps theirs h.ends (endpoint_after mine turns) (queued_of mine turns) (recorded_past turns) (packets_of turns) (endpoint_after theirs others) (recorded_past others) (reading_of theirs others) h.between
         few went key (λ link has. only link both.link has both.held ∙ both.tag_is) (both.link, both.held, both.tag_is, interleaves both.link both.held both.peer_is))
 
     full : (stream count : ℕ) → reset_calls.empties stream count ≡ true → full_asks reset_calls.empties theirs.max_receiver_window_buffer_size stream count ≡ true
     full stream count is = ap (λ (b : Bool). b && nat_le theirs.max_receiver_window_buffer_size (2 ^ 63)) is ∙ window
+
+    known_gap : (stream end : ℕ) (places : List ℕ) → LeaveNoGapBefore (nat_le theirs.max_receiver_window_buffer_size (2 ^ 63)) (reset_calls.asks stream) (queued_of mine turns) stream end places → LeaveNoGapBefore true (reset_calls.asks stream) (queued_of mine turns) stream end places
+    known_gap stream end places gap = subst (λ (b : Bool). LeaveNoGapBefore b (reset_calls.asks stream) (queued_of mine turns) stream end places) window gap
 
     none_in_epochs : InEpochs []
     none_in_epochs =
@@ -184,8 +187,8 @@ module _ (reset_calls : ResetCalls) (mine theirs : Options) (turns others : List
               record {
                 split = record { count = c.place; ask = asked stream c.place c.asked; split = tt };
                 no_gap = λ earlier later has. absurd has;
-                all = λ empty low free place on below one. absurd (nothing_taken place index d.ordered.delivered.places low
-                    (all_of (queued_of mine turns) sent same stream index c.place d.ordered.delivered.places (reset_calls.asks stream) (HasReset mine turns stream) (asked stream) (c.all refl (full stream c.place (empties stream c.place empty)) (let none : index ≤ 0 = low in omega (arith, none))) free place on below one));
+                all = λ empty low place on free below one. absurd (nothing_taken place index d.ordered.delivered.places low
+                    (all_of (queued_of mine turns) sent same stream index c.place d.ordered.delivered.places (reset_calls.asks stream) (HasReset mine turns stream) (asked stream) (c.all refl (full stream c.place (empties stream c.place empty)) (let none : index ≤ 0 = low in omega (arith, none))) place on free below one));
               }
               );
           no_gap = λ stream earlier later has. absurd has;
@@ -204,12 +207,12 @@ module _ (reset_calls : ResetCalls) (mine theirs : Options) (turns others : List
               let c = d.cut stream (record { streams = streams; index = index }) (subst (λ (k : ℕ). HasEntry (record { streams = streams; index = index }) (h.ends.gets k).performed) one p.performed) names in
               record {
                 split = record { count = c.place; ask = asked stream c.place c.asked; split = split_of (queued_of mine turns) sent same stream index c.place d.ordered.delivered.places c.separates };
-                no_gap = no_gap_of (queued_of mine turns) sent same stream c.place d.ordered.delivered.places (reset_calls.asks stream) (HasReset mine turns stream) (asked stream) (c.no_gap refl);
+                no_gap = no_gap_of (queued_of mine turns) sent same stream c.place d.ordered.delivered.places (reset_calls.asks stream) (HasReset mine turns stream) (asked stream) (known_gap stream c.place d.ordered.delivered.places (c.no_gap refl));
                 all = λ empty low. all_of (queued_of mine turns) sent same stream index c.place d.ordered.delivered.places (reset_calls.asks stream) (HasReset mine turns stream) (asked stream) (c.all refl (full stream c.place (empties stream c.place empty)) low);
               }
               );
           no_gap = λ stream. no_gap_of (queued_of mine turns) sent same stream (length sent) d.ordered.delivered.places (reset_calls.asks stream) (HasReset mine turns stream) (asked stream)
-              (subst (λ (n : ℕ). LeaveNoGapBefore (reset_calls.asks stream) (queued_of mine turns) stream n d.ordered.delivered.places) same.size (d.no_gap refl stream));
+              (subst (λ (n : ℕ). LeaveNoGapBefore true (reset_calls.asks stream) (queued_of mine turns) stream n d.ordered.delivered.places) same.size (known_gap stream (length (queued_of mine turns)) d.ordered.delivered.places (d.no_gap refl stream)));
         }
 
     pub is_in_epochs : InEpochs (read_under tag theirs others)

@@ -41,7 +41,7 @@ all_performed mine theirs my_offer their_offer turns others one other h k is my 
     ]
 
 -- What happened is recorded, except what was sent.
-noted_of : (effect : Effect) → ((packet : Packet) → effect ≡ sends packet → ⊥) → (effects : List Effect) → HasEffect effect effects → HasEffect effect (effects_without_packets effects)
+pub noted_of : (effect : Effect) → ((packet : Packet) → effect ≡ sends packet → ⊥) → (effects : List Effect) → HasEffect effect effects → HasEffect effect (effects_without_packets effects)
 noted_of effect none [] has = has
 noted_of effect none (sends packet ∷ effects) (inl is) = absurd (none packet is)
 noted_of effect none (sends packet ∷ effects) (inr has) = noted_of effect none effects has

@@ -1,7 +1,7 @@
 -- Over an honest run each association that a side records is shown, so the tags of what is shown are
 -- those of all.
-use Rattle.std.proofs.Common.{◌≡◌, Bool, true, false, List, [], ◌∷◌, ◌++◌, refl, subst, inl, inr}
-use Rattle.std.specs.Prelude.{Option, ◌&&◌}
+use Rattle.std.proofs.Common.{◌≡◌, Bool, true, false, List, [], ◌∷◌, ◌++◌, refl, sym, subst, inl, inr, ◌∙◌}
+use Rattle.std.specs.Prelude.{Option, None, Some, ◌&&◌}
 use Rattle.dcsctp_spec_lemmas.specs.types.declared.capabilities.Capabilities.{Capabilities}
 use Rattle.dcsctp_spec_lemmas.specs.types.declared.options.Options.{Options}
 use Rattle.dcsctp_spec_lemmas.specs.types.declared.schedule.Side.{Side}
@@ -14,6 +14,7 @@ use Rattle.dcsctp_spec_lemmas.specs.types.Schedule.{StepContent, ActContent, ste
 use Rattle.dcsctp_spec_runs.specs.Sockets.{PerformedAct, Both, of_side, of_other, side_turns_added, turns_after, endpoint_after, packets_shown, StepTurns, SocketRun, side_of, side_of_act, NextTurns, acts_of}
 use Rattle.dcsctp_spec_runs.specs.World as machine
 use Rattle.dcsctp_spec_runs.specs.World.{world_after}
+use Rattle.dcsctp_spec_lemmas.specs.spec.queues.Transfer.{Transfer}
 use Rattle.dcsctp_spec_lemmas.specs.spec.association.Effect.{Effect, AssociationIdentity, identity_of_core}
 use Rattle.dcsctp_spec_runs.specs.Past.{current}
 use Rattle.dcsctp_spec_runs.proofs.RunsAlong.{run_along}
@@ -31,6 +32,7 @@ use Rattle.dcsctp_theorem_association.specs.OneSide.{LeavesCore}
 use Rattle.dcsctp_theorem_sockets.specs.Agreement.{recorded_past}
 use Rattle.dcsctp_delivery_sockets.proofs.sockets.KnownPeers.{IsMove, run_starts, run_through, ran_leaves}
 use Rattle.dcsctp_delivery_sockets.proofs.sockets.Known.{along_front, along_rest, sent_front, IsOwn, own_turn}
+use Rattle.dcsctp_delivery_sockets.specs.sockets.Kinds.{IsSentByCapabilities, FlightsAreAsNegotiated}
 use Rattle.dcsctp_delivery_sockets.specs.sockets.Shown.{identity_shown, identities_shown, OneTakesThePlace, ShownTagsSuffice}
 use Rattle.dcsctp_delivery_sockets.specs.sockets.Delivery.{MatchOrUnmatched, SendsLittleTogether}
 use Rattle.dcsctp_delivery_sockets.proofs.sockets.Turns.{SameKinds, EndpointIs}
@@ -212,3 +214,21 @@ shown_tags_suffice law options run are runs honest fresh = (
     together : OneTakesThePlace options run → (side : Side) → SendsLittleTogether (of_side side (turns_after run))
     together one sides.A old link has has' same other = one.little sides.A old link (h.a.past.among old has) (h.a.past.among link has') same other
     together one sides.B old link has has' same other = one.little sides.B old link (h.b.past.among old has) (h.b.past.among link has') same other
+
+-- ---- how data is sent
+
+sent_alike : (kinds others : Capabilities) (transfer : Option Transfer) → SameKinds others kinds → IsSentByCapabilities kinds transfer → IsSentByCapabilities others transfer
+sent_alike kinds others None same is = tt
+sent_alike kinds others (Some transfer) same is = (is.0 ∙ sym same.0, is.1 ∙ sym same.1)
+
+pub flights_are_as_negotiated : DeliveryLaws → FlightsAreAsNegotiated
+flights_are_as_negotiated law options run are runs honest fresh = by_side
+  where
+    h : BothSides (kinds_of options) options (turns_after run) (identities_shown sides.A options run) (identities_shown sides.B options run)
+    h = both_sides law (kinds_of options) options are run runs honest (both_good law options run are runs honest fresh)
+
+    by_side : (side : Side) → IsSentByCapabilities (negotiated_capabilities (offer_of (of_side side options)) (offer_of (of_other side options))) (endpoint_after (of_side side options) (of_side side (turns_after run))).queues.transfer
+    by_side sides.A = h.a.is.left
+    by_side sides.B =
+        sent_alike (kinds_of options) (negotiated_capabilities (offer_of options.b) (offer_of options.a)) (endpoint_after options.b (turns_after run).b).queues.transfer
+        (swapped_kinds (offer_of options.a) (offer_of options.b)) h.b.is.left

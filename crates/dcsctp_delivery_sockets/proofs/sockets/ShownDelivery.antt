@@ -19,7 +19,8 @@ none_takes options turns once = (tags_wider options turns once, both)
     both sides.A = together_wider turns.a once.a
     both sides.B = together_wider turns.b once.b
 
-allowed : (options : Both Options) (run : List PerformedAct) → (ShownTagsServeOnce options run → TagsServeOnce (turns_after run)) × (OneTakesThePlace options run → TagsServeOnceBut options (turns_after run) × ((side : Side) → SendsLittleTogether (of_side side (turns_after run)))) → AllowsDelivery options run → TurnsAllowDelivery options (turns_after run)
+-- What is shown allows what the turns have.
+pub allowed : (options : Both Options) (run : List PerformedAct) → (ShownTagsServeOnce options run → TagsServeOnce (turns_after run)) × (OneTakesThePlace options run → TagsServeOnceBut options (turns_after run) × ((side : Side) → SendsLittleTogether (of_side side (turns_after run)))) → AllowsDelivery options run → TurnsAllowDelivery options (turns_after run)
 allowed options run suffice allows =
     let one : TagsServeOnceBut options (turns_after run) × ((side : Side) → SendsLittleTogether (of_side side (turns_after run))) =
     elim allows.tags [ inl once ↦ none_takes options (turns_after run) (suffice.0 once) | inr shown ↦ suffice.1 shown ] in

@@ -193,6 +193,14 @@ module _ (queued : List Message) (sent : List Sending) (h : SaysSame (λ sending
         ordered = sym (ap (λ (x : Message). x.is_unordered) one.is) ∙ ap (λ (s : Sending). s.options.unordered) same ∙ on.ordered;
       }
 
+  pub spared_on : (p : ℕ) (on : IsOrderedMessage sent stream p) → has_limits on.sending.options ≡ false → (ordered_on p on).message.is_limited ≡ false
+  unfolding ordered_on
+  spared_on p on spared =
+      let m : MarkAt queued p = below_at p queued (let below = found_below sent p on.sending on.at in let size = h.size in omega (arith, below, size)) in
+      let one = h.at p m.mark m.at in
+      let same : one.sending ≡ on.sending = same_sending (sym one.at ∙ on.at) in
+      sym (ap (λ (x : Message). x.is_limited) one.is) ∙ ap (λ (s : Sending). has_limits s.options) same ∙ spared
+
   pub message_on : (p : ℕ) → IsStreamMessage sent stream p → IsMessageOn queued stream p
   message_on p on =
       let m : MarkAt queued p = below_at p queued (let below = found_below sent p on.sending on.at in let size = h.size in omega (arith, below, size)) in

@@ -10,7 +10,7 @@ use Rattle.dcsctp_spec_lemmas.specs.spec.endpoint.BegunResets.{BegunReset}
 use Rattle.dcsctp_spec_lemmas.specs.spec.queues.Reassembly.{ReassemblyState, EndsDeferral}
 use Rattle.dcsctp_spec_lemmas.specs.spec.queues.Transfer.{Transfer}
 use Rattle.dcsctp_spec_lemmas.specs.spec.endpoint.ResetOutcomes.{first_reset_request, has_completed, has_reset}
-use Rattle.dcsctp_delivery_directions.specs.directions.Directions.{PerformedReset, reset_performed, Asking, HasAsked, asking_renewed, all_ended, is_reset_reached, Direction}
+use Rattle.dcsctp_delivery_directions.specs.directions.Directions.{PerformedReset, reset_performed, Asking, HasAskedUpTo, asking_renewed, all_ended, is_reset_reached, Direction}
 use Rattle.dcsctp_delivery_sockets.specs.turns.Asking.{Own, renewed_own, AreNumbered, IsOut, OutIs, IsAsking, AsksFit, SomeFit}
 use Rattle.dcsctp_delivery_sockets.specs.turns.Actions.{has_refused, Inside, ended_own, OwnEnds, unended, committed, rolled_back, PeerResets, unreset, absent, deferred, reset_now}
 use Rattle.dcsctp_delivery_sockets.specs.turns.Runs.{IsBetween, as_it_was, once_performed, once_refused, KnowsRequest, performed_if_reset}
@@ -208,11 +208,11 @@ front_by is_known came direction transfer left happened new is none steps =
 
 -- Where a request is handled, one of the same streams was begun.
 abbrev pub AsksSome : Direction → Option Content → Type 0
-AsksSome direction came = (parameters : List ResetParameter) (reset : RequestedReset) → came ≡ Some (re_config parameters) → first_reset_request parameters ≡ Some reset → HasAsked direction.asking.requests reset.streams
+AsksSome direction came = (parameters : List ResetParameter) (reset : RequestedReset) → came ≡ Some (re_config parameters) → first_reset_request parameters ≡ Some reset → HasAskedUpTo direction.asking.requests reset.last_tsn reset.streams
 
 -- where one is performed: it may be known to be the newest, or to want what that wants
 performs_by : (is_known : Bool) (came : Option Content) (happened : List Effect) (direction : Direction) (transfer : Transfer) (parameters : List ResetParameter) (reset : RequestedReset) (reassembly : ReassemblyState) → KnowsRequest is_known direction transfer came happened
-    → has_reset happened ≡ true → came ≡ Some (re_config parameters) → first_reset_request parameters ≡ Some reset → HasAsked direction.asking.requests reset.streams → is_reset_reached reset transfer.tracker ≡ true → EndsDeferral reset.streams transfer.reassembly reassembly
+    → has_reset happened ≡ true → came ≡ Some (re_config parameters) → first_reset_request parameters ≡ Some reset → HasAskedUpTo direction.asking.requests reset.last_tsn reset.streams → is_reset_reached reset transfer.tracker ≡ true → EndsDeferral reset.streams transfer.reassembly reassembly
     → DirectionSteps (receiving direction transfer direction.read)
     (resetting is_known direction (record transfer { reassembly = reassembly }) true (reset_performed reset.streams direction.read reassembly ∷ direction.performed))
 performs_by true came happened direction transfer parameters reset reassembly newest done came_is wants some reached leaves =
@@ -225,7 +225,7 @@ performs_by true came happened direction transfer parameters reset reassembly ne
     (own_same reset found.newest.reset transfer.reassembly.deferral (sym found.asks) found.own)
     (subst (λ (r : RequestedReset). EndsDeferral r.streams transfer.reassembly reassembly) (sym found.asks) leaves)))
 performs_by false came happened direction transfer parameters reset reassembly (inl unmixed) done came_is wants some reached leaves =
-    one_step (receiving direction transfer direction.read) _ (directions.resets reset.streams reassembly unmixed some leaves)
+    one_step (receiving direction transfer direction.read) _ (directions.resets reset.streams reassembly unmixed some.asked leaves)
 performs_by false came happened direction transfer parameters reset reassembly (inr newest) done came_is wants some reached leaves =
     let found = newest done parameters reset came_is wants in
     let same : found.newest.reset.streams ≡ reset.streams = ap (λ (r : RequestedReset). r.streams) found.asks in

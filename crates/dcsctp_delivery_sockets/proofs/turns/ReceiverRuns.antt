@@ -12,7 +12,7 @@ use Rattle.dcsctp_delivery_sockets.specs.turns.Sides.{WasAsked, WasSent, receivi
 use Rattle.dcsctp_spec_lemmas.specs.spec.association.Effect.{identity_of, identity_of_core}
 use Rattle.dcsctp_spec_lemmas.specs.types.queues.Messages.{MessageContent}
 use Rattle.dcsctp_delivery_sockets.specs.turns.Runs.{new_direction, OpensSmall, KnowsRequest, performed_if_reset, RecordsByTurn, records_none, records_one, reached_count, ReceiverTurns, receiver_goes_on, receiver_ends, receiver_begins, OpensAssociation, IdleTurns, idle_stays, idle_begins, taken_turn}
-use Rattle.dcsctp_delivery_directions.specs.directions.Directions.{PerformedReset, Asking, HasAsked, nothing_asked, Direction, DirectionRun}
+use Rattle.dcsctp_delivery_directions.specs.directions.Directions.{PerformedReset, Asking, HasAskedUpTo, nothing_asked, Direction, DirectionRun}
 use Rattle.dcsctp_spec_lemmas.specs.spec.association.FlushChanges.{reset_request}
 use Rattle.dcsctp_spec_lemmas.specs.spec.endpoint.BegunResets.{BegunReset}
 use Rattle.dcsctp_delivery_sockets.proofs.turns.Sides.{steps_go_on, actions_receive}
@@ -108,11 +108,12 @@ module _ (is_known : Bool) (options : Options) (first size : ℕ) (direction : D
           let both : Some begun.reset ≡ Some reset = ap first_reset_request parts ∙ wants in
           cc
 
-      of_begun : IsOfBegun direction.asking.requests (re_config parameters) → HasAsked direction.asking.requests reset.streams
+      of_begun : IsOfBegun direction.asking.requests (re_config parameters) → HasAskedUpTo direction.asking.requests reset.last_tsn reset.streams
       of_begun (inl unasked) = absurd (not_wanted unasked)
-      of_begun (inr (begun, has, same)) = record { begun = begun; has = has; is = ap (λ (r : RequestedReset). r.streams) (same_reset begun same) }
+      of_begun (inr (begun, has, same)) =
+          record { asked = record { begun = begun; has = has; is = ap (λ (r : RequestedReset). r.streams) (same_reset begun same) }; last = ap (λ (r : RequestedReset). r.last_tsn) (same_reset begun same) }
 
-      go : NoRequests parameters ⊎ WasAsked direction.sent parameters → HasAsked direction.asking.requests reset.streams
+      go : NoRequests parameters ⊎ WasAsked direction.sent parameters → HasAskedUpTo direction.asking.requests reset.last_tsn reset.streams
       go (inl unasked) = absurd (not_wanted unasked)
       go (inr asked) = of_begun (requests_were_begun options first size (receiving direction transfer direction.read) run asked.emission parameters asked.was asked.holds)
 

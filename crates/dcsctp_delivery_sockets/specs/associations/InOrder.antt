@@ -44,14 +44,15 @@ abbrev pub EndsCutAsAsked : Type 0
 EndsCutAsAsked =
     (options : Options) (ends : Ends) (e : Endpoint) (queued : List Message) (past : List Effect) (packets : List Emission) (other : Endpoint) (their_past : List Effect) (reading : Reading)
     → Between options ends (sending_side e queued past packets) (receiving_side other their_past reading) → length queued < 2 ^ 64 → ((tag : ℕ) → chunks_before (ends.former tag) packets + chunks_to (ends.latest tag) packets < 2 ^ 30)
-    → (tag : ℕ) → NumbersFromZero e past tag → InterleavesUnder past tag → AreCutAsAsked false ends.calls.asks (full_asks ends.calls.empties options.max_receiver_window_buffer_size) (ends.gets tag).performed queued (with_key tag reading.reads)
+    → (tag : ℕ) → NumbersFromZero e past tag → InterleavesUnder past tag → AreCutAsAsked false (nat_le options.max_receiver_window_buffer_size (2 ^ 63)) ends.calls.asks (full_asks ends.calls.empties options.max_receiver_window_buffer_size) (ends.gets tag).performed queued (with_key tag reading.reads)
 
--- Where the sender has had no other own tag, no message is left out of an epoch before another, unless one of them may be abandoned.
+-- Where the sender has had no other own tag, no message without limits is left out of an epoch before another, if the receive window
+-- is of 2^63 bytes or less.
 abbrev pub EndsCutWithoutGaps : Type 0
 EndsCutWithoutGaps =
     (options : Options) (ends : Ends) (e : Endpoint) (queued : List Message) (past : List Effect) (packets : List Emission) (other : Endpoint) (their_past : List Effect) (reading : Reading)
     → Between options ends (sending_side e queued past packets) (receiving_side other their_past reading) → length queued < 2 ^ 64 → ((tag : ℕ) → chunks_before (ends.former tag) packets + chunks_to (ends.latest tag) packets < 2 ^ 30)
-    → (tag : ℕ) → IsOnlyOwn past tag → InterleavesUnder past tag → AreCutAsAsked true ends.calls.asks (full_asks ends.calls.empties options.max_receiver_window_buffer_size) (ends.gets tag).performed queued (with_key tag reading.reads)
+    → (tag : ℕ) → IsOnlyOwn past tag → InterleavesUnder past tag → AreCutAsAsked true (nat_le options.max_receiver_window_buffer_size (2 ^ 63)) ends.calls.asks (full_asks ends.calls.empties options.max_receiver_window_buffer_size) (ends.gets tag).performed queued (with_key tag reading.reads)
 
 -- Also where they don't it holds, if besides no message may be abandoned, or few ordered ones were queued on each stream; and no
 -- request to reset streams was sent there.

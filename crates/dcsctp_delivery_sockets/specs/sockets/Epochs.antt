@@ -78,36 +78,33 @@ pub record IsDeliveredByEpoch (asked : ℕ → ℕ → Type 0) (told : List ℕ 
 abbrev pub AreSentInOneEpoch : (ℕ → Type 0) → ℕ → ℕ → Type 0
 AreSentInOneEpoch asked earlier later = (count : ℕ) → asked count → earlier < count → count ≤ later → ⊥
 
--- No ordered message of the stream has a lifetime or a limit on retransmissions, from this place on and before the other.
-abbrev pub AreSentWithoutLimits : List Sending → ℕ → ℕ → ℕ → Type 0
-AreSentWithoutLimits sent stream from to = (place : ℕ) → from ≤ place → place < to → (on : IsOrderedMessage sent stream place) → has_limits on.sending.options ≡ false
-
--- Of the ordered messages of the stream that were sent before this place, none is missing before one of its epoch that was read, if
--- none from that one on has limits.
+-- Of the ordered messages of the stream that were sent before this place, none without a lifetime and without a limit on
+-- retransmissions is missing before one of its epoch that was read, whatever limits the others have.
 abbrev pub HaveNoGapBefore : (ℕ → Type 0) → List Sending → ℕ → ℕ → List ℕ → Type 0
 HaveNoGapBefore asked sent stream end places =
-    (earlier later : ℕ) → HasEntry later places → IsOrderedMessage sent stream later → IsOrderedMessage sent stream earlier → earlier < later → later < end → AreSentInOneEpoch asked earlier later → AreSentWithoutLimits sent stream earlier end
-    → HasEntry earlier places
+    (earlier later : ℕ) → HasEntry later places → IsOrderedMessage sent stream later → (on : IsOrderedMessage sent stream earlier) → has_limits on.sending.options ≡ false
+    → earlier < later → later < end → AreSentInOneEpoch asked earlier later → HasEntry earlier places
 
--- Of the ordered messages of the stream that were sent before the reset was asked for, and since one was before, each is among the first
--- ones, up to this index, if none of the stream before has limits.
+-- Of the ordered messages of the stream that were sent before the reset was asked for, and since one was before, each without limits
+-- is among the first ones, up to this index, whatever limits the others have.
 abbrev pub AreReadBefore : (ℕ → Type 0) → List Sending → ℕ → ℕ → ℕ → List ℕ → Type 0
 AreReadBefore asked sent stream index count places =
-    AreSentWithoutLimits sent stream 0 count → (place : ℕ) → IsOrderedMessage sent stream place → place < count → ((other : ℕ) → asked other → place < other → other < count → ⊥) → HasEntry place (take index places)
+    (place : ℕ) (on : IsOrderedMessage sent stream place) → has_limits on.sending.options ≡ false → place < count
+    → ((other : ℕ) → asked other → place < other → other < count → ⊥) → HasEntry place (take index places)
 
 -- At each call by which the user resets the stream, once it has sent so many messages, none of the stream waits.
 abbrev pub ResetsWithNoneWaiting : Options → List Transition → ℕ → ℕ → Type 0
 ResetsWithNoneWaiting options turns stream sent = (reset : HasReset options turns stream sent) → (stream_named stream (endpoint_after options reset.earlier).queues.queue.streams).messages ≡ []
 
--- The reset splits them where it was asked for, and before it no epoch has a gap. If none waited then, its epoch is read whole before
--- the report, or can be.
+-- The reset splits them where it was asked for, and before it no message without limits is missing in an epoch. If none waited then,
+-- all those of its epoch are read before the report, or can be.
 pub record IsSplitWithoutGaps (asked empty : ℕ → Type 0) (sent : List Sending) (stream index : ℕ) (places : List ℕ) : Type 0 where
   pub split : AreSplitAsAsked asked sent stream index places
   pub no_gap : HaveNoGapBefore asked sent stream split.count places
   pub all : empty split.count → index ≤ length places → AreReadBefore asked sent stream index split.count places
 
--- Each reset that is reported splits them so. And since the last one none is missing either: what is read of an epoch without limits
--- is a prefix of what was sent in it.
+-- Each reset that is reported splits them so. And since the last one none is missing either: what is read of an epoch's ordered
+-- messages without limits is a prefix of those that were sent in it.
 pub record IsDeliveredInEpochs (asked empty : ℕ → ℕ → Type 0) (told : List ℕ → ℕ → Type 0) (sent : List Sending) (read : List MessageContent) : Type 0 where
   pub delivered : IsDeliveredInOrder sent read
   pub epochs : (streams : List ℕ) (index : ℕ) → told streams index → (stream : ℕ) → names_stream streams stream ≡ true → IsSplitWithoutGaps (asked stream) (empty stream) sent stream index delivered.places
