@@ -21,3 +21,8 @@ pub mod Delivering
 pub mod Performing
 pub mod DeliveringRuns
 pub mod CutsAsked
+pub mod Waits
+pub mod Pauses
+pub mod PauseSteps
+pub mod PauseMoves
+pub mod PauseRuns

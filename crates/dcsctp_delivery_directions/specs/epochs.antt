@@ -2,3 +2,4 @@ pub mod Sending
 pub mod Directions
 pub mod Cuts
 pub mod Asked
+pub mod Reports

@@ -4,6 +4,7 @@
 ghost use Rattle.dcsctp_delivery_directions.specs.epochs.Asked.{DirectionsCutAsAsked};
 ghost use Rattle.dcsctp_delivery_directions.specs.epochs.Cuts.{DirectionsDeliverByEpoch};
 ghost use Rattle.dcsctp_delivery_directions.specs.epochs.Directions.{DirectionsSendByEpoch};
+ghost use Rattle.dcsctp_delivery_directions.specs.epochs.Reports.{DirectionsCutByCalls};
 
 /// With interleaving what was queued on a stream before its user asked for a reset is sent before the reset, or never,
 /// and what was queued since is sent after it (RFC 6525, section 5.1.2). Of a stream that was open where the
@@ -29,4 +30,12 @@ pub fn directions_deliver_by_epoch()
 /// limits is left out.
 pub fn directions_cut_as_asked()
     ensures { DirectionsCutAsAsked }
+{}
+
+/// With interleaving each reset that the sender's user asks for is performed before the receiver's user reads what was
+/// queued on the stream since (RFC 6525, sections 5.1.2 and 5.2.2). Take two messages of a stream that are both read,
+/// ordered or not, with limits or without, and a call between them by which the user resets the stream, when nothing of it
+/// waits. Then the receiver has performed a reset of it that was asked for between them: it separates them.
+pub fn directions_cut_by_calls()
+    ensures { DirectionsCutByCalls }
 {}

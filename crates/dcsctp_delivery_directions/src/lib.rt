@@ -14,7 +14,8 @@ pub use directions_laws::{
     requests_are_begun, unlimited_forward_nothing, unlimited_leave_out_none,
 };
 pub use epochs_laws::{
-    directions_cut_as_asked, directions_deliver_by_epoch, directions_send_by_epoch,
+    directions_cut_as_asked, directions_cut_by_calls, directions_deliver_by_epoch,
+    directions_send_by_epoch,
 };
 pub use order_laws::{
     directions_deliver_in_order, directions_deliver_without_gaps, incoming_stays_in_order,

@@ -31,4 +31,5 @@ pub mod Runs
 pub mod ShownDelivery
 pub mod AskedResets
 pub mod ToldResets
+pub mod MadeResets
 pub mod Epochs

@@ -48,7 +48,8 @@ pub fn ends_deliver_in_order()
 /// Where messages interleave, and the numbers of each stream begin at 0, each reset of streams that the receiver has
 /// performed was asked for by the sender's user, and separates what was queued before from what was queued since (RFC
 /// 6525, sections 5.1.2 and 5.2.2). Where the sender had one own tag, no message without limits is left out between two
-/// resets.
+/// resets. And each call by which the user resets a stream, when nothing of it waits, is followed by a reset that is
+/// performed before what is queued since is read.
 pub fn ends_cut_as_asked()
     ensures asked { EndsCutAsAsked }
     ensures without_gaps { EndsCutWithoutGaps }

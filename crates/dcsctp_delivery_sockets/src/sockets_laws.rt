@@ -63,7 +63,9 @@ pub fn acts_keep_ends()
 /// it names, the messages read before, or ready by then, were sent before that call, and those read later since. Where
 /// the sender has no other own tag, what is read of the ordered messages without limits between two such calls is a
 /// prefix of them; and if none of the stream waited at the later call, it is all of them. Messages with limits among
-/// them make no difference.
+/// them make no difference. And such a call at which nothing of the stream waits is followed by a report, between what
+/// is read of what was sent before it and of what is sent since, ordered or not, if the socket that reads is without
+/// `follow_rfc`.
 pub fn sockets_deliver()
     ensures { SocketsDeliver }
 {

@@ -116,7 +116,7 @@ module _ (first : ℕ) (old : Direction) (queued : List Message) (below : Endpoi
   same_queued : queued ++ old.queued ≡ queued
   same_queued = ap (λ (l : List Message). queued ++ l) awaited.queued ∙ append-nil queued
 
-  pub arrived_anew : (floors : ℕ → Bool → ℕ) → Arrived first s.history old → Arrived first (new_history floors) (record old { queued = queued; queues = below; beginning = beginning })
+  pub arrived_anew : (floors : ℕ → Bool → ℕ) → Arrived first s.history old → Arrived first (new_history floors) (record old { queued = queued; queues = below; prepared = []; beginning = beginning })
   arrived_anew floors a =
       record {
         places = a.places;
@@ -128,9 +128,9 @@ module _ (first : ℕ) (old : Direction) (queued : List Message) (below : Endpoi
         cleared = λ is performed. absurd (not_performed old.asking awaited.asking performed);
       }
 
-  unfoldable pub started_stands : first < 2 ^ 32 → AllByRecursion Fits queued → QueueWaits queued below.queue → NoneInFlight first below.queue below.transfer → Stands first (record old { queued = queued; queues = below; beginning = beginning })
+  unfoldable pub started_stands : first < 2 ^ 32 → AllByRecursion Fits queued → QueueWaits queued below.queue → NoneInFlight first below.queue below.transfer → Stands first (record old { queued = queued; queues = below; prepared = []; beginning = beginning })
   started_stands small fit waits none =
-      let direction : Direction = record old { queued = queued; queues = below; beginning = beginning } in
+      let direction : Direction = record old { queued = queued; queues = below; prepared = []; beginning = beginning } in
       stands_anew first direction small awaited.acknowledged none waits fit awaited.sent awaited.asking (λ little. arrived_anew waits.floors (s.arrived (omega (arith, empty))))
 
 -- ---- a run

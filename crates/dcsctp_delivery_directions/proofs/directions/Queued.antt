@@ -34,7 +34,7 @@ none_out : (out : ℕ) (marks : List Mark) (mark : Mark) → out ≡ 0 → HasEn
 none_out zero marks mark none has = has
 none_out (suc out) marks mark none has = absurd (omega (arith, none))
 
-newest_out : (out : ℕ) (marks earlier : List Mark) (mark newest : Mark) → out ≤ 1 → marks ≡ newest ∷ earlier → HasEntry mark (take out marks) → mark ≡ newest
+pub newest_out : (out : ℕ) (marks earlier : List Mark) (mark newest : Mark) → out ≤ 1 → marks ≡ newest ∷ earlier → HasEntry mark (take out marks) → mark ≡ newest
 newest_out zero marks earlier mark newest one is has = absurd has
 newest_out (suc out) [] earlier mark newest one is has = absurd (cc)
 newest_out (suc out) (other ∷ marks) earlier mark newest one is has =
@@ -122,13 +122,25 @@ module _ (first : ℕ) (old : Direction) (s : Stands first old) where
       let fewer : Fewer queue.streams old.queues.queue.streams = setting_handed setting old.queues.queue in
       stepped_queue queue kind ways fewer old.asking.out (stays_quiet queue kind ways fewer) (setting_hold old.queued s.history setting old.queues.queue fits now_queues)
 
-  unfoldable pub stepped_prepares : (ids : List ℕ) → AllByRecursion (λ id. id < 2 ^ 16) ids → Stands first (record old { queues = record old.queues { queue = prepared_all ids old.queues.queue } })
+  unfoldable pub stepped_prepares : (ids : List ℕ) → AllByRecursion (λ id. id < 2 ^ 16) ids
+      → Stands first (record old { queues = record old.queues { queue = prepared_all ids old.queues.queue }; prepared = record { ids = ids; count = length old.queued } ∷ old.prepared })
   stepped_prepares ids fit =
       let queue : SendQueueState = prepared_all ids old.queues.queue in
       let kind = preparing_kind ids old.queues.queue in
       let ways = preparing_ways ids old.queues.queue in
       let fewer : Fewer queue.streams old.queues.queue.streams = preparing_handed ids old.queues.queue in
-      stepped_queue queue kind ways fewer old.asking.out (stays_quiet queue kind ways fewer) (preparing_hold old.queued s.history ids old.queues.queue fit now_queues)
+      let t = stepped_queue queue kind ways fewer old.asking.out (stays_quiet queue kind ways fewer) (preparing_hold old.queued s.history ids old.queues.queue fit now_queues) in
+      record {
+        history = t.history;
+        fit = t.fit;
+        next = t.next;
+        queues = t.queues;
+        packets = t.packets;
+        count = t.count;
+        asked = t.asked;
+        quiet = t.quiet;
+        arrived = λ little. (let a = t.arrived little in record { places = a.places; were = a.were; once = a.once; received = a.received; cleared = a.cleared });
+      }
 
   -- ---- a reset that ends
 

@@ -18,7 +18,7 @@ use Rattle.dcsctp_delivery_directions.proofs.epochs.Behind.{asked_keeps}
 abbrev pub AreAsked : Beginning → (ℕ → EpochBounds) → Type 0
 AreAsked beginning asked = (id place : ℕ) → (asked id).newest ≡ Some place → beginning.asks id place ≡ true
 
-may_named : (beginning : Beginning) (count : ℕ) (streams : List Stream) (id : ℕ) (ids : List ℕ) → AllByRecursion (MayReset beginning count streams) ids → is_named ids id ≡ true → beginning.asks id count ≡ true
+pub may_named : (beginning : Beginning) (count : ℕ) (streams : List Stream) (id : ℕ) (ids : List ℕ) → AllByRecursion (MayReset beginning count streams) ids → is_named ids id ≡ true → beginning.asks id count ≡ true
 may_named beginning count streams id [] may named = absurd (cc)
 may_named beginning count streams id (other ∷ ids) may named =
     elim (eqb_tells other id) [

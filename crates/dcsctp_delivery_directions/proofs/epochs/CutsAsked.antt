@@ -16,7 +16,7 @@ use Rattle.dcsctp_delivery_directions.specs.order.Queue.{Cut, Separates, LeaveNo
 use Rattle.dcsctp_delivery_directions.proofs.order.PlainSteps.{same_kind}
 use Rattle.dcsctp_delivery_directions.specs.epochs.Sending.{EpochBounds, IsKnown}
 use Rattle.dcsctp_delivery_directions.specs.epochs.Directions.{asked_of, opened_of}
-use Rattle.dcsctp_delivery_directions.specs.epochs.Cuts.{cut_added, cuts_with, cuts_after, cuts_of, known_asks, is_cut_whole, cuts_ended}
+use Rattle.dcsctp_delivery_directions.specs.epochs.Cuts.{AreDeliveredByEpoch, cut_added, cuts_with, cuts_after, cuts_of, known_asks, is_cut_whole, cuts_ended}
 use Rattle.dcsctp_delivery_directions.specs.epochs.Asked.{AreCutAsAsked, known_fulls}
 use Rattle.dcsctp_delivery_directions.proofs.epochs.AskedBounds.{AreAsked, asked_on}
 use Rattle.dcsctp_delivery_directions.proofs.epochs.Behind.{handed_shut}
@@ -60,15 +60,15 @@ early_on old _ (resets streams new unmixed some leaves) early none = absurd (non
 early_on old _ (takes message messages ready) early none = early (none_asked old _ (takes message messages ready) none)
 
 -- A cut of this index is there, at a place where the reset was asked for.
-record HasCut (sized : Bool) (beginning : Beginning) (cuts : List Cut) (id index : ℕ) : Type 0 where
-  cut : Cut
-  has : HasEntry cut cuts
-  index_is : cut.index ≡ index
-  whole_is : cut.is_whole ≡ is_cut_whole sized beginning id cut.place
-  asked : beginning.asks id cut.place ≡ true
+pub record HasCut (sized : Bool) (beginning : Beginning) (cuts : List Cut) (id index : ℕ) : Type 0 where
+  pub cut : Cut
+  pub has : HasEntry cut cuts
+  pub index_is : cut.index ≡ index
+  pub whole_is : cut.is_whole ≡ is_cut_whole sized beginning id cut.place
+  pub asked : beginning.asks id cut.place ≡ true
 
 -- So it is of each reset that was performed, on each stream that was open first.
-abbrev HaveCuts : Bool → (ℕ → Bool) → (ℕ → List Cut) → Direction → Type 0
+abbrev pub HaveCuts : Bool → (ℕ → Bool) → (ℕ → List Cut) → Direction → Type 0
 HaveCuts sized opened cuts direction = (id : ℕ) → opened id ≡ true → (reset : PerformedReset) → HasEntry reset direction.performed → names_stream reset.streams id ≡ true → HasCut sized direction.beginning (cuts id) id reset.index
 
 module _ (sized : Bool) (first : ℕ) (old : Direction) (small : first < 2 ^ 32) (opened : ℕ → Bool) (asked : ℕ → EpochBounds) (cuts : ℕ → List Cut) (d : DeliversSo sized first old opened asked cuts) (are : AreAsked old.beginning asked)
@@ -152,9 +152,9 @@ none_performed options first size _ (begins direction b) none = b.performed
 none_performed options first size _ (goes_on old direction run step) none = early_on old direction step (none_performed options first size old run) none
 none_performed options first size _ (starts old queued below beginning run awaited fit waits idle begun) none = none_performed options first size old run (ap (λ (x : Asking). x.requests) awaited.asking)
 
-record AsksSo (sized : Bool) (direction : Direction) (opened : ℕ → Bool) (asked : ℕ → EpochBounds) (cuts : ℕ → List Cut) : Type 0 where
-  are : AreAsked direction.beginning asked
-  have : direction.queues.queue.is_interleaved ≡ true → HaveCuts sized opened cuts direction
+pub record AsksSo (sized : Bool) (direction : Direction) (opened : ℕ → Bool) (asked : ℕ → EpochBounds) (cuts : ℕ → List Cut) : Type 0 where
+  pub are : AreAsked direction.beginning asked
+  pub have : direction.queues.queue.is_interleaved ≡ true → HaveCuts sized opened cuts direction
 
 asks_new : (sized : Bool) (direction : Direction) (opened : ℕ → Bool) → direction.performed ≡ [] → AsksSo sized direction opened (λ id. record { newest = None; ended = 0 }) (λ id. [])
 asks_new sized direction opened none =
@@ -163,7 +163,7 @@ asks_new sized direction opened none =
       have = λ interleaved id open_first reset has. absurd (subst (HasEntry reset) none has);
     }
 
-run_asks : (options : Options) (first size : ℕ) (direction : Direction) → first < 2 ^ 32 → length direction.queued < 2 ^ 64 → (run : DirectionRun options first size direction)
+pub run_asks : (options : Options) (first size : ℕ) (direction : Direction) → first < 2 ^ 32 → length direction.queued < 2 ^ 64 → (run : DirectionRun options first size direction)
     → AsksSo (nat_le size (2 ^ 63)) direction (opened_of options first size direction run) (asked_of options first size direction run) (cuts_of options first size direction run)
 run_asks options first size _ small few (begins direction b) = asks_new (nat_le size (2 ^ 63)) direction _ b.performed
 run_asks options first size _ small few (goes_on old direction run step) =
@@ -178,33 +178,33 @@ run_asks options first size _ small few (goes_on old direction run step) =
           );
     }
 run_asks options first size _ small few (starts old queued below beginning run awaited fit waits none begun) =
-    asks_new (nat_le size (2 ^ 63)) (record old { queued = queued; queues = below; beginning = beginning }) _ (none_performed options first size old run (ap (λ (x : Asking). x.requests) awaited.asking))
+    asks_new (nat_le size (2 ^ 63)) (record old { queued = queued; queues = below; prepared = []; beginning = beginning }) _ (none_performed options first size old run (ap (λ (x : Asking). x.requests) awaited.asking))
 
 -- Where the numbers begin at 0 each stream was open first.
-opened_so : (options : Options) (first size : ℕ) (direction : Direction) (run : DirectionRun options first size direction) → direction.beginning.from_zero ≡ true → (id : ℕ) → opened_of options first size direction run id ≡ true
+pub opened_so : (options : Options) (first size : ℕ) (direction : Direction) (run : DirectionRun options first size direction) → direction.beginning.from_zero ≡ true → (id : ℕ) → opened_of options first size direction run id ≡ true
 opened_so options first size _ (begins direction b) from id = (b.begun.zero from).unpaused id
 opened_so options first size _ (goes_on old direction run step) from id = opened_so options first size old run (ap (λ (b : Beginning). b.from_zero) (sym (same_beginning old direction step)) ∙ from) id
 opened_so options first size _ (starts old queued below beginning run awaited fit waits none begun) from id = (begun.zero from).unpaused id
 
 -- Where the sender began with all that was queued, it is known when each reset was asked for.
-whole_before : (sized : Bool) (beginning : Beginning) (queued : List Message) (id end : ℕ) (places : List ℕ) → beginning.has_all ≡ true → LeaveNoGapBefore sized (known_asks beginning id) queued id end places → LeaveNoGapBefore sized (beginning.asks id) queued id end places
+pub whole_before : (sized : Bool) (beginning : Beginning) (queued : List Message) (id end : ℕ) (places : List ℕ) → beginning.has_all ≡ true → LeaveNoGapBefore sized (known_asks beginning id) queued id end places → LeaveNoGapBefore sized (beginning.asks id) queued id end places
 whole_before sized beginning queued id end places whole = subst (λ (b : Bool). LeaveNoGapBefore sized (λ (count : ℕ). if b then beginning.asks id count else true) queued id end places → LeaveNoGapBefore sized (beginning.asks id) queued id end places) (sym whole) (λ gap. gap)
 
-whole_all : (beginning : Beginning) (queued : List Message) (id index : ℕ) (cut : Cut) (places : List ℕ) → beginning.has_all ≡ true → cut.index ≡ index → HaveAllBefore (known_asks beginning id) queued id cut places
+pub whole_all : (beginning : Beginning) (queued : List Message) (id index : ℕ) (cut : Cut) (places : List ℕ) → beginning.has_all ≡ true → cut.index ≡ index → HaveAllBefore (known_asks beginning id) queued id cut places
     → HaveAllBefore (beginning.asks id) queued id (record { index = index; place = cut.place; is_whole = true }) places
 whole_all beginning queued id index cut places whole same all place on free below one =
     subst (λ (k : ℕ). HasEntry place (take k places)) same
     (all place on free below (λ count from to. ap (λ (b : Bool). if b then beginning.asks id count else true) whole ∙ one count from to))
 
-pub directions_cut_as_asked : (options : Options) (first size : ℕ) (direction : Direction) → DirectionRun options first size direction → first < 2 ^ 32 → assigned_count direction < 2 ^ 31 → length direction.queued < 2 ^ 64
-    → direction.queues.queue.is_interleaved ≡ true → direction.beginning.from_zero ≡ true → AreCutAsAsked direction.beginning.has_all (nat_le size (2 ^ 63)) direction.beginning.asks (known_fulls size direction.beginning) direction.performed direction.queued direction.read
-directions_cut_as_asked options first size direction run small little few interleaved from =
-    let d = directions_deliver_by_epoch options first size direction run small little few interleaved from in
-    let a = run_asks options first size direction small few run in
+-- Each reset that was performed was asked for, by what is known of a run.
+unfoldable pub cut_as_asked : (size : ℕ) (direction : Direction) (opened : ℕ → Bool) (asked : ℕ → EpochBounds) (cuts : ℕ → List Cut) (d : AreDeliveredByEpoch (nat_le size (2 ^ 63)) (known_asks direction.beginning) cuts direction.queued direction.read)
+    → AsksSo (nat_le size (2 ^ 63)) direction opened asked cuts → direction.queues.queue.is_interleaved ≡ true → ((id : ℕ) → opened id ≡ true)
+    → AreCutAsAsked direction.beginning.has_all (nat_le size (2 ^ 63)) direction.beginning.asks (known_fulls size direction.beginning) direction.performed direction.queued direction.read
+cut_as_asked size direction opened asked cuts d a interleaved opens =
     record {
       ordered = d.ordered;
       cut = λ id reset has names. (
-          let c = a.have interleaved id (opened_so options first size direction run from id) reset has names in
+          let c = a.have interleaved id (opens id) reset has names in
           record {
             place = c.cut.place;
             asked = c.asked;
@@ -217,3 +217,9 @@ directions_cut_as_asked options first size direction run small little few interl
           );
       no_gap = λ whole id. whole_before (nat_le size (2 ^ 63)) direction.beginning direction.queued id (length direction.queued) d.ordered.delivered.places whole (d.no_gap id);
     }
+
+pub directions_cut_as_asked : (options : Options) (first size : ℕ) (direction : Direction) → DirectionRun options first size direction → first < 2 ^ 32 → assigned_count direction < 2 ^ 31 → length direction.queued < 2 ^ 64
+    → direction.queues.queue.is_interleaved ≡ true → direction.beginning.from_zero ≡ true → AreCutAsAsked direction.beginning.has_all (nat_le size (2 ^ 63)) direction.beginning.asks (known_fulls size direction.beginning) direction.performed direction.queued direction.read
+directions_cut_as_asked options first size direction run small little few interleaved from =
+    cut_as_asked size direction (opened_of options first size direction run) (asked_of options first size direction run) (cuts_of options first size direction run) (directions_deliver_by_epoch options first size direction run small little few interleaved from)
+    (run_asks options first size direction small few run) interleaved (opened_so options first size direction run from)

@@ -75,7 +75,7 @@ module _ (sized : Bool) (first : ℕ) (old : Direction) (small : first < 2 ^ 32)
   stands = d.goes.stands
 
   -- what was sent since the last reset of a stream was queued since, still
-  since_later : (direction : Direction) (after : Stands first direction) (asked' : ℕ → EpochBounds) (cuts' : ℕ → List Cut) (out left : ℕ) (c : Continues stands.history after.history old.queues.queue.streams direction.queues.queue.streams out left)
+  pub since_later : (direction : Direction) (after : Stands first direction) (asked' : ℕ → EpochBounds) (cuts' : ℕ → List Cut) (out left : ℕ) (c : Continues stands.history after.history old.queues.queue.streams direction.queues.queue.streams out left)
       → ((id : ℕ) → SendsByEpoch (length direction.queued) after.history direction.queues.queue id (asked' id)) → AreBehind direction.queues.queue.streams asked' cuts'
       → (id : ℕ) → ComeSince stands.history id (cuts' id) → ComeSince after.history id (cuts' id)
   since_later direction after asked' cuts' out left c sends behind id since cut has n f at on current =
@@ -87,7 +87,7 @@ module _ (sized : Bool) (first : ℕ) (old : Direction) (small : first < 2 ^ 32)
       ]
 
   -- a step in which no reset ends
-  pub further : (direction : Direction) (few : length direction.queued < 2 ^ 64) (step : DirectionStep old direction) (cuts' : ℕ → List Cut) → ((id : ℕ) (cut : Cut) → HasEntry cut (cuts id) → HasEntry cut (cuts' id)) → EndsNone old direction step
+  unfoldable pub further : (direction : Direction) (few : length direction.queued < 2 ^ 64) (step : DirectionStep old direction) (cuts' : ℕ → List Cut) → ((id : ℕ) (cut : Cut) → HasEntry cut (cuts id) → HasEntry cut (cuts' id)) → EndsNone old direction step
       → (old.queues.queue.is_interleaved ≡ true → AreBehind old.queues.queue.streams asked cuts')
       → (length stands.history.log < 2 ^ 31 → old.queues.queue.is_interleaved ≡ true → old.beginning.from_zero ≡ true
       → Arrives (watch_of sized (known_asks old.beginning) cuts') first stands.history direction.queued direction.read direction.tracker direction.reassembly old.queues.queue.streams)
@@ -119,7 +119,7 @@ module _ (sized : Bool) (first : ℕ) (old : Direction) (small : first < 2 ^ 32)
       }
 
   -- where none is performed either
-  pub further_same : (direction : Direction) (few : length direction.queued < 2 ^ 64) (step : DirectionStep old direction) → EndsNone old direction step
+  unfoldable pub further_same : (direction : Direction) (few : length direction.queued < 2 ^ 64) (step : DirectionStep old direction) → EndsNone old direction step
       → (length stands.history.log < 2 ^ 31 → sized ≡ true → ((first + (2 ^ 32 - 1)) % 2 ^ 32 + old.acknowledged ≤ old.tracker.cumulative) × (old.reassembly.max_size ≤ 2 ^ 63) × IsLastAssigned stands.history first old.reassembly.deferral × IsNamedWaiting old.reassembly.deferral) → DeliversSo sized first direction opened (asked_after old direction step asked) cuts
   further_same direction few step ends covered =
       further direction few step cuts (λ id cut has. has) ends d.behind

@@ -3,9 +3,11 @@ use Rattle.std.proofs.Common.{◌≡◌, ℕ, Bool, true, false, ◌<◌, ◌≤
 use Rattle.std.specs.Prelude.{◌⊎◌, Option, None, Some, if◌then◌else◌}
 use Rattle.dcsctp_spec.specs.types.declared.options.Options.{Options}
 use Rattle.dcsctp_spec.specs.queues.Incoming.{stream_on}
+use Rattle.dcsctp_spec.specs.types.queues.Messages.{MessageContent}
 use Rattle.dcsctp_spec.specs.queues.OwnResets.{queue_committed}
-use Rattle.dcsctp_delivery_directions.specs.sending.Log.{Message, History, sent_messages}
+use Rattle.dcsctp_delivery_directions.specs.sending.Log.{Message, Slot, History, sent_messages}
 use Rattle.dcsctp_delivery_directions.specs.sending.Numbers.{is_handed_out, stream_named, AreFloorsAtZero}
+use Rattle.dcsctp_delivery_directions.specs.sending.Losing.{WasSentOf}
 use Rattle.dcsctp_delivery_directions.specs.sending.Queueing.{floors_raised}
 use Rattle.dcsctp_delivery_directions.proofs.sending.Chunks.{kinds_of}
 use Rattle.dcsctp_delivery_directions.proofs.sending.Counting.{told}
@@ -152,7 +154,7 @@ module _ (sized : Bool) (first : ℕ) (old : Direction) (small : first < 2 ^ 32)
 
   -- ---- each step
 
-  delivers_on : (direction : Direction) (few : length direction.queued < 2 ^ 64) (step : DirectionStep old direction) → (length stands.history.log < 2 ^ 31 → sized ≡ true → ((first + (2 ^ 32 - 1)) % 2 ^ 32 + old.acknowledged ≤ old.tracker.cumulative) × (old.reassembly.max_size ≤ 2 ^ 63) × IsLastAssigned stands.history first old.reassembly.deferral × IsNamedWaiting old.reassembly.deferral) → DeliversSo sized first direction opened (asked_after old direction step asked) (cuts_after sized old direction step asked cuts)
+  pub delivers_on : (direction : Direction) (few : length direction.queued < 2 ^ 64) (step : DirectionStep old direction) → (length stands.history.log < 2 ^ 31 → sized ≡ true → ((first + (2 ^ 32 - 1)) % 2 ^ 32 + old.acknowledged ≤ old.tracker.cumulative) × (old.reassembly.max_size ≤ 2 ^ 63) × IsLastAssigned stands.history first old.reassembly.deferral × IsNamedWaiting old.reassembly.deferral) → DeliversSo sized first direction opened (asked_after old direction step asked) (cuts_after sized old direction step asked cuts)
   delivers_on _ few (commits go_on) covered = ends few go_on (λ before known. (covered before known).1)
   delivers_on _ few (rolls_back unmixed) covered =
       record {
@@ -192,6 +194,35 @@ module _ (sized : Bool) (first : ℕ) (old : Direction) (small : first < 2 ^ 32)
   delivers_on _ few (resets streams new unmixed some leaves) covered = further_same sized first old small opened asked cuts d _ few (resets streams new unmixed some leaves) tt covered
   delivers_on _ few (takes message messages ready) covered = further_same sized first old small opened asked cuts d _ few (takes message messages ready) tt covered
 
+  -- its history is that of the step
+  pub delivers_goes : (direction : Direction) (few : length direction.queued < 2 ^ 64) (step : DirectionStep old direction) → (covered : (length stands.history.log < 2 ^ 31 → sized ≡ true → ((first + (2 ^ 32 - 1)) % 2 ^ 32 + old.acknowledged ≤ old.tracker.cumulative) × (old.reassembly.max_size ≤ 2 ^ 63) × IsLastAssigned stands.history first old.reassembly.deferral × IsNamedWaiting old.reassembly.deferral))
+      → (delivers_on direction few step covered).goes ≡ goes_further first old small opened asked d.goes direction few step
+  unfolding delivers_on further further_same ends
+  delivers_goes _ few (commits go_on) covered = refl
+  delivers_goes _ few (rolls_back unmixed) covered = refl
+  delivers_goes _ few (performs newest earlier new asks unknown reached own leaves) covered = refl
+  delivers_goes _ few (performs_earlier newest earlier new asks unknown reached own leaves) covered = refl
+  delivers_goes _ few (queues now sending fits some) covered = refl
+  delivers_goes _ few (sets setting fits) covered = refl
+  delivers_goes _ few (prepares ids fit kept) covered = refl
+  delivers_goes _ few (flushes e draft answers same no_data allowed) covered = refl
+  delivers_goes _ few (resends now room transfer left tsns chunks emission known sends are contents) covered = refl
+  delivers_goes _ few (resends_nothing now room transfer left tsns known sends) covered = refl
+  delivers_goes _ few (speaks emission no_data) covered = refl
+  delivers_goes _ few (asks_again emission begun was contents) covered = refl
+  delivers_goes _ few (renews emission newest earlier number asks out contents) covered = refl
+  delivers_goes _ few (turns_aside transfer new known same) covered = refl
+  delivers_goes _ few (acknowledges now sack transfer new known valid reached does) covered = refl
+  delivers_goes _ few (loses now transfer known) covered = refl
+  delivers_goes _ few (receives emission chunk theirs new was holds some same same' does) covered = refl
+  delivers_goes _ few (forwards emission tsn streams theirs new was holds same same' does) covered = refl
+  delivers_goes _ few (receives_interleaved emission chunk theirs new was holds some same same' does) covered = refl
+  delivers_goes _ few (forwards_interleaved emission tsn streams theirs new was holds same same' does) covered = refl
+  delivers_goes _ few (tracks new cumulative ranges) covered = refl
+  delivers_goes _ few (defers last_tsn streams some) covered = refl
+  delivers_goes _ few (resets streams new unmixed some leaves) covered = refl
+  delivers_goes _ few (takes message messages ready) covered = refl
+
 -- ---- a run
 
 pub run_delivers : (options : Options) (first size : ℕ) (direction : Direction) → first < 2 ^ 32 → length direction.queued < 2 ^ 64 → (run : DirectionRun options first size direction)
@@ -214,7 +245,7 @@ run_delivers options first size _ small few (starts old queued below beginning r
     let none_queued : length old.queued ≡ 0 = ap (λ (l : List Message). length l) awaited.queued in
     let d = run_delivers options first size old small (omega (arith, none_queued)) run in
     let w = waits_from queued below.queue waits in
-    let direction : Direction = record old { queued = queued; queues = below; beginning = beginning } in
+    let direction : Direction = record old { queued = queued; queues = below; prepared = []; beginning = beginning } in
     delivers_new (nat_le size (2 ^ 63)) first direction (started_stands first old queued below beginning d.goes.stands awaited small fit w.waits idle) w.waits.floors (started_history first old queued below beginning d.goes.stands awaited small fit w.waits idle)
     (ap (λ (a : Asking). a.out) awaited.asking) (ap (λ (a : Asking). a.requests) awaited.asking) (λ from. w.zero (begun.zero from)) begun.whole
 
@@ -235,10 +266,14 @@ before_front knows asks queued id end xs ys are gap earlier later has on on' spa
       | inr r ↦ absurd (let more = across queued id xs ys later earlier are has r on on' in omega (arith, more, less))
     ]
 
-pub directions_deliver_by_epoch : (options : Options) (first size : ℕ) (direction : Direction) (run : DirectionRun options first size direction) → first < 2 ^ 32 → assigned_count direction < 2 ^ 31 → length direction.queued < 2 ^ 64
-    → direction.queues.queue.is_interleaved ≡ true → direction.beginning.from_zero ≡ true → AreDeliveredByEpoch (nat_le size (2 ^ 63)) (known_asks direction.beginning) (cuts_of options first size direction run) direction.queued direction.read
-directions_deliver_by_epoch options first size direction run small little few interleaved from =
-    let d = run_delivers options first size direction small few run in
+-- What was read was sent, beside that.
+pub record IsDeliveredAsSent (sized : Bool) (asks : ℕ → ℕ → Bool) (cuts : ℕ → List Cut) (queued : List Message) (log : List Slot) (read : List MessageContent) : Type 0 where
+  pub delivered : AreDeliveredByEpoch sized asks cuts queued read
+  pub sent : (place : ℕ) → HasEntry place delivered.ordered.delivered.places → WasSentOf log place
+
+pub delivered_as_sent : (sized : Bool) (first : ℕ) (direction : Direction) (opened : ℕ → Bool) (asked : ℕ → EpochBounds) (cuts : ℕ → List Cut) (d : DeliversSo sized first direction opened asked cuts) → first < 2 ^ 32 → assigned_count direction < 2 ^ 31
+    → direction.queues.queue.is_interleaved ≡ true → direction.beginning.from_zero ≡ true → IsDeliveredAsSent sized (known_asks direction.beginning) cuts direction.queued d.goes.stands.history.log direction.read
+delivered_as_sent sized first direction opened asked cuts d small little interleaved from =
     let s = d.goes.stands in
     let count = s.count in
     let low : length s.history.log < 2 ^ 31 = omega (arith, count, little) in
@@ -247,31 +282,39 @@ directions_deliver_by_epoch options first size direction run small little few in
     go s a.quiet a.received.got a.places a.were a.once counts (goes_in_turn first direction small _ _ d.goes d.keeps interleaved) a.received.holds
   where
     read : (s : Stands first direction) (quiet : ℕ → Bool) (got : List ℕ) (base : ℕ) (places : List ℕ) → WereQueued direction.queued places direction.read → AreDistinct places → ((id : ℕ) → CountsFromZero s.history id) → ((id : ℕ) → SendsEpochsInTurn (known_asks direction.beginning id) direction.queued s.history id)
-        → IncomingOrdered (watch_of (nat_le size (2 ^ 63)) (known_asks direction.beginning) (cuts_of options first size direction run)) (sent_messages direction.queued s.history) quiet got base places direction.reassembly.incoming → AreDeliveredByEpoch (nat_le size (2 ^ 63)) (known_asks direction.beginning) (cuts_of options first size direction run) direction.queued direction.read
+        → IncomingOrdered (watch_of sized (known_asks direction.beginning) cuts) (sent_messages direction.queued s.history) quiet got base places direction.reassembly.incoming → IsDeliveredAsSent sized (known_asks direction.beginning) cuts direction.queued s.history.log direction.read
     read s quiet got base places were once counts turns o =
         record {
-          ordered = record {
-            delivered = record { places = places; were_queued = were; once = once };
-            in_order = λ id. ordered_was_read (watch_of (nat_le size (2 ^ 63)) (known_asks direction.beginning) (cuts_of options first size direction run)) direction.queued s.history quiet got base places direction.reassembly.incoming id (counts id) o;
+          delivered = record {
+            ordered = record {
+              delivered = record { places = places; were_queued = were; once = once };
+              in_order = λ id. ordered_was_read (watch_of sized (known_asks direction.beginning) cuts) direction.queued s.history quiet got base places direction.reassembly.incoming id (counts id) o;
+            };
+            epochs = λ id cut has. front_separate direction.queued id cut.index cut.place places o.holds.places (separated id cut has).separates;
+            no_gaps = λ id cut has. before_front sized (known_asks direction.beginning id) direction.queued id cut.place places o.holds.places (in_order id) (separated id cut has).no_gap;
+            before = λ id cut has. (separated id cut has).before;
+            complete = λ id cut has whole low place on free below one. taken_front place cut.index places o.holds.places low ((separated id cut has).all whole place on free below one);
+            no_gap = λ id. before_front sized (known_asks direction.beginning id) direction.queued id (length direction.queued) places o.holds.places (in_order id)
+                (sent_leaves sized (known_asks direction.beginning id) direction.queued s.history id (places ++ o.holds.places) s.queues.cut
+                (no_gap_where (watch_of sized (known_asks direction.beginning) cuts id) direction.queued s.history (quiet id) id (places ++ o.holds.places) (o.holds.waits id) (stream_on id direction.reassembly.incoming.streams) s.queues.cut (counts id) (turns id) (o.order id (counts id)))
+                (length direction.queued) (λ n f at on. at_below f.place f.message direction.queued (s.queues.cut.pieces n f at).at));
           };
-          epochs = λ id cut has. front_separate direction.queued id cut.index cut.place places o.holds.places (separated id cut has).separates;
-          no_gaps = λ id cut has. before_front (nat_le size (2 ^ 63)) (known_asks direction.beginning id) direction.queued id cut.place places o.holds.places (in_order id) (separated id cut has).no_gap;
-          before = λ id cut has. (separated id cut has).before;
-          complete = λ id cut has whole low place on free below one. taken_front place cut.index places o.holds.places low ((separated id cut has).all whole place on free below one);
-          no_gap = λ id. before_front (nat_le size (2 ^ 63)) (known_asks direction.beginning id) direction.queued id (length direction.queued) places o.holds.places (in_order id)
-              (sent_leaves (nat_le size (2 ^ 63)) (known_asks direction.beginning id) direction.queued s.history id (places ++ o.holds.places) s.queues.cut
-              (no_gap_where (watch_of (nat_le size (2 ^ 63)) (known_asks direction.beginning) (cuts_of options first size direction run) id) direction.queued s.history (quiet id) id (places ++ o.holds.places) (o.holds.waits id) (stream_on id direction.reassembly.incoming.streams) s.queues.cut (counts id) (turns id) (o.order id (counts id)))
-              (length direction.queued) (λ n f at on. at_below f.place f.message direction.queued (s.queues.cut.pieces n f at).at));
+          sent = λ place has. (let is = o.holds.spent place (has_left place places o.holds.places has) in record { number = is.offset; piece = is.head; at = is.at_head; is = is.is });
         }
       where
         in_order : (id : ℕ) → ComeInOrder direction.queued id (places ++ o.holds.places)
-        in_order id = (quiet_where (watch_of (nat_le size (2 ^ 63)) (known_asks direction.beginning) (cuts_of options first size direction run) id) direction.queued s.history (quiet id) id (places ++ o.holds.places) (o.holds.waits id) (stream_on id direction.reassembly.incoming.streams) (o.order id (counts id))).in_order
+        in_order id = (quiet_where (watch_of sized (known_asks direction.beginning) cuts id) direction.queued s.history (quiet id) id (places ++ o.holds.places) (o.holds.waits id) (stream_on id direction.reassembly.incoming.streams) (o.order id (counts id))).in_order
 
-        separated : (id : ℕ) → AreSeparated (nat_le size (2 ^ 63)) (known_asks direction.beginning id) direction.queued id (cuts_of options first size direction run id) (places ++ o.holds.places)
+        separated : (id : ℕ) → AreSeparated sized (known_asks direction.beginning id) direction.queued id (cuts id) (places ++ o.holds.places)
         separated id =
-            separated_where (watch_of (nat_le size (2 ^ 63)) (known_asks direction.beginning) (cuts_of options first size direction run) id) direction.queued s.history (quiet id) id (places ++ o.holds.places) (o.holds.waits id) (stream_on id direction.reassembly.incoming.streams) (o.order id (counts id))
+            separated_where (watch_of sized (known_asks direction.beginning) cuts id) direction.queued s.history (quiet id) id (places ++ o.holds.places) (o.holds.waits id) (stream_on id direction.reassembly.incoming.streams) (o.order id (counts id))
 
     go : (s : Stands first direction) (quiet : ℕ → Bool) (got places : List ℕ) → WereQueued direction.queued places direction.read → AreDistinct places → ((id : ℕ) → CountsFromZero s.history id) → ((id : ℕ) → SendsEpochsInTurn (known_asks direction.beginning id) direction.queued s.history id)
-        → ReassemblesInOrder (watch_of (nat_le size (2 ^ 63)) (known_asks direction.beginning) (cuts_of options first size direction run)) (sent_messages direction.queued s.history) quiet first got places direction.reassembly.incoming → AreDeliveredByEpoch (nat_le size (2 ^ 63)) (known_asks direction.beginning) (cuts_of options first size direction run) direction.queued direction.read
+        → ReassemblesInOrder (watch_of sized (known_asks direction.beginning) cuts) (sent_messages direction.queued s.history) quiet first got places direction.reassembly.incoming → IsDeliveredAsSent sized (known_asks direction.beginning) cuts direction.queued s.history.log direction.read
     go s quiet got places were once counts turns (none_handled none' last empty') = read s quiet [] 0 places were once counts turns (empty' 0)
     go s quiet got places were once counts turns (some_handled base is holds) = read s quiet got base places were once counts turns holds
+
+pub directions_deliver_by_epoch : (options : Options) (first size : ℕ) (direction : Direction) (run : DirectionRun options first size direction) → first < 2 ^ 32 → assigned_count direction < 2 ^ 31 → length direction.queued < 2 ^ 64
+    → direction.queues.queue.is_interleaved ≡ true → direction.beginning.from_zero ≡ true → AreDeliveredByEpoch (nat_le size (2 ^ 63)) (known_asks direction.beginning) (cuts_of options first size direction run) direction.queued direction.read
+directions_deliver_by_epoch options first size direction run small little few interleaved from =
+    (delivered_as_sent (nat_le size (2 ^ 63)) first direction (opened_of options first size direction run) (asked_of options first size direction run) (cuts_of options first size direction run) (run_delivers options first size direction small few run) small little interleaved from).delivered

@@ -11,7 +11,7 @@ use Rattle.dcsctp_spec.specs.endpoint.FlushOutcomes.{Ask, Answer, AreFlushAnswer
 use Rattle.dcsctp_delivery_directions.specs.sending.Places.{at_place}
 use Rattle.dcsctp_delivery_directions.specs.sending.Flushes.{InFlight, QueuesFollowLog}
 use Rattle.dcsctp_delivery_directions.specs.sending.Log.{Message, Piece, Slot, History, IsLogOfPieces}
-use Rattle.dcsctp_delivery_directions.specs.sending.Numbers.{IsCurrent}
+use Rattle.dcsctp_delivery_directions.specs.sending.Numbers.{stream_named, IsCurrent}
 use Rattle.dcsctp_delivery_directions.specs.sending.Pieces.{Going, IsGoing, CarriesPiece}
 use Rattle.dcsctp_delivery_directions.specs.sending.Stages.{Bears, SaysSlot}
 use Rattle.dcsctp_delivery_directions.proofs.sending.Extended.{at_more}
@@ -19,7 +19,7 @@ use Rattle.dcsctp_delivery_directions.proofs.sending.Losing.{items_in}
 use Rattle.dcsctp_delivery_directions.proofs.sending.OpenOn.{flush_open_on}
 use Rattle.dcsctp_delivery_directions.proofs.sending.Places.{at_below, at_some}
 use Rattle.dcsctp_delivery_directions.proofs.sending.Stages.{item_at, item_below}
-use Rattle.dcsctp_delivery_directions.specs.epochs.Sending.{SendsFrom, EpochBounds, is_open, HaltsIfAsked, SendsByEpoch}
+use Rattle.dcsctp_delivery_directions.specs.epochs.Sending.{AllFrom, SendsFrom, EpochBounds, is_open, HaltsIfAsked, SendsByEpoch}
 use Rattle.dcsctp_delivery_directions.proofs.epochs.Feeding.{KnowsWays, FeedsStreams}
 use Rattle.dcsctp_delivery_directions.proofs.epochs.FlushFeeds.{Flies, FeedsOn, flush_feeds}
 use Rattle.dcsctp_delivery_directions.proofs.epochs.Named.{AreApart, AnyPlace, from_feeds, feeds_from, stop_feeds, feeds_going, feeds_rest, named_open, open_named}
@@ -132,6 +132,13 @@ module _ (queued : List Message) (history later : History) (first acknowledged :
         rest = feeds_rest place id queues.queue.streams done;
       }
       )
+
+  -- What waits on the stream since this place still does, and nothing older was sent.
+  pub flush_waits : (place : ℕ) → AllFrom place (stream_named id e.queues.queue.streams).messages
+      → AllFrom place (stream_named id queues.queue.streams).messages × ((k : ℕ) (f : Piece) → length history.log ≤ k → at_place k later.log ≡ Some (Some f) → f.message.stream ≡ id → place ≤ f.place)
+  flush_waits place are =
+      let feeds = from_feeds place id e.queues.queue.streams before.queue_holds.distinct are in
+      (feeds_from place id queues.queue.streams (fed (λ p. place ≤ p) (λ p. place ≤ p) 0 feeds).fed.feeds, sent_so (λ p. place ≤ p) (λ p. place ≤ p) 0 feeds)
 
   pub flush_by_epoch : (count : ℕ) (asked : EpochBounds) → SendsByEpoch count history e.queues.queue id asked → SendsByEpoch count later queues.queue id asked
   flush_by_epoch count asked s =

@@ -158,7 +158,7 @@ waits_queued queued log streams id w holds has =
       | inr none ↦ absurd (subst (λ (s : Stream). HasEntry w s.messages) none has)
     ]
 
-take_has : (k : ℕ) (l : List Waiting) (w : Waiting) → HasEntry w (take k l) → HasEntry w l
+pub take_has : (k : ℕ) (l : List Waiting) (w : Waiting) → HasEntry w (take k l) → HasEntry w l
 take_has zero l w has = absurd has
 take_has (suc k) [] w has = absurd has
 take_has (suc k) (v ∷ l) w has = elim has [ inl e ↦ inl e | inr t ↦ inr (take_has k l w t) ]

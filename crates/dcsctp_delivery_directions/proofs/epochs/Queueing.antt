@@ -18,12 +18,12 @@ use Rattle.dcsctp_delivery_directions.proofs.epochs.Alike.{same_history, stays_b
 -- ---- a message is queued
 
 -- One more may wait.
-record Grows (w : Waiting) (old new : Stream) : Type 0 where
-  pause : new.pause ≡ old.pause
-  under_way : new.under_way ≡ old.under_way
-  messages : (new.messages ≡ old.messages) ⊎ (new.messages ≡ old.messages ++ w ∷ [])
+pub record Grows (w : Waiting) (old new : Stream) : Type 0 where
+  pub pause : new.pause ≡ old.pause
+  pub under_way : new.under_way ≡ old.under_way
+  pub messages : (new.messages ≡ old.messages) ⊎ (new.messages ≡ old.messages ++ w ∷ [])
 
-from_one_more : (a : ℕ) (l : List Waiting) (w : Waiting) → a ≤ w.message_id → AllFrom a l → AllFrom a (l ++ w ∷ [])
+pub from_one_more : (a : ℕ) (l : List Waiting) (w : Waiting) → a ≤ w.message_id → AllFrom a l → AllFrom a (l ++ w ∷ [])
 from_one_more a [] w low are = (low, tt)
 from_one_more a (v ∷ l) w low are = (are.0, from_one_more a l w low are.1)
 
@@ -37,7 +37,7 @@ front_stays : (l : List Waiting) (v w : Waiting) → front_of l ≡ Some v → f
 front_stays [] v w is = absurd (cc)
 front_stays (x ∷ l) v w is = is
 
-queueing_grows : (now : ℕ) (sending : Sending) (queue : SendQueueState) (id : ℕ) → Grows (waiting_as now sending.message sending.options queue) (stream_named id queue.streams) (stream_named id (sending_queued now sending queue).streams)
+pub queueing_grows : (now : ℕ) (sending : Sending) (queue : SendQueueState) (id : ℕ) → Grows (waiting_as now sending.message sending.options queue) (stream_named id queue.streams) (stream_named id (sending_queued now sending queue).streams)
 queueing_grows now sending queue id =
     let w : Waiting = waiting_as now sending.message sending.options queue in
     let used = used_unmoved queue sending.message.stream id in

@@ -57,7 +57,7 @@ again_size now old new no_steps = refl
 again_size now old new (more_steps between _ steps sends) =
     subst (λ (s : Stage). length s.queue.outstanding.items ≡ length old.queue.outstanding.items) (sym sends.is) (changed_length (SendAgain (next_tsn between.queue.outstanding)) sends.place (sends.place + 1) between.queue.outstanding.items ∙ again_size now old between steps)
 
-at_once_size : (now room : ℕ) (waiting : SendQueueState) (old new : RetransmissionState) (tsns : List ℕ) → SendsAtOnce now room waiting old new tsns → length new.outstanding.items ≡ length old.outstanding.items
+pub at_once_size : (now room : ℕ) (waiting : SendQueueState) (old new : RetransmissionState) (tsns : List ℕ) → SendsAtOnce now room waiting old new tsns → length new.outstanding.items ≡ length old.outstanding.items
 at_once_size now room waiting old new tsns sends = subst (λ (s : RetransmissionState). length s.outstanding.items ≡ length old.outstanding.items) (sym sends.is) (ap (λ (o : OutstandingState). length o.items) (counted_outstanding (room - sends.room) sends.resent) ∙ again_size now _ _ sends.steps)
 
 none_more : (more log : List Slot) → length (more ++ log) ≡ length log → more ≡ []
@@ -236,7 +236,7 @@ run_by_epoch options first size _ small few (goes_on old direction run step) =
 run_by_epoch options first size _ small few (starts old queued below beginning run awaited fit waits none begun) =
     let none_queued : length old.queued ≡ 0 = ap (λ (l : List Message). length l) awaited.queued in
     let g = run_by_epoch options first size old small (omega (arith, none_queued)) run in
-    goes_new first (record old { queued = queued; queues = below; beginning = beginning }) (started_stands first old queued below beginning g.stands awaited small fit waits none) waits.floors
+    goes_new first (record old { queued = queued; queues = below; prepared = []; beginning = beginning }) (started_stands first old queued below beginning g.stands awaited small fit waits none) waits.floors
     (started_history first old queued below beginning g.stands awaited small fit waits none)
 
 pub directions_send_by_epoch : (options : Options) (first size : ℕ) (direction : Direction) (run : DirectionRun options first size direction) → first < 2 ^ 32 → length direction.queued < 2 ^ 64 → direction.queues.queue.is_interleaved ≡ true

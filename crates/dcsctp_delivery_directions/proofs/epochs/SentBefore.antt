@@ -30,7 +30,7 @@ SendsBefore queued log empties id asked =
     → (place : ℕ) (message : Message) → at_place place queued ≡ Some message → message.stream ≡ id → message.is_limited ≡ false → asked.ended ≤ place → place < count → WasSentOf log place
 
 -- nothing of a named stream waits
-empty_named : (beginning : Beginning) (count : ℕ) (streams : List Stream) (id : ℕ) (ids : List ℕ) → AllByRecursion (MayReset beginning count streams) ids → is_named ids id ≡ true → beginning.empties id count ≡ true → (stream_named id streams).messages ≡ []
+pub empty_named : (beginning : Beginning) (count : ℕ) (streams : List Stream) (id : ℕ) (ids : List ℕ) → AllByRecursion (MayReset beginning count streams) ids → is_named ids id ≡ true → beginning.empties id count ≡ true → (stream_named id streams).messages ≡ []
 empty_named beginning count streams id [] may named empties = absurd (cc)
 empty_named beginning count streams id (other ∷ ids) may named empties =
     elim (eqb_tells other id) [

@@ -206,12 +206,12 @@ begins_in_order options first size direction small b =
     begins_so first direction (begun_stands options first size direction small b') w.waits.floors is (ap (λ (a : Asking). a.out) b.asking) (ap (λ (a : Asking). a.requests) b.asking) (λ from. w.zero (b.begun.zero from))
 
 starts_in_order : (first : ℕ) (old : Direction) (queued : List Message) (below : EndpointQueues) (beginning : Beginning) → first < 2 ^ 32 → (g : GoesInOrder first old) → (awaited : IsAwaited old) → AllByRecursion Fits queued → QueueWaits queued below.queue
-    → NoneInFlight first below.queue below.transfer → BeginsAs beginning queued below.queue → GoesInOrder first (record old { queued = queued; queues = below; beginning = beginning })
+    → NoneInFlight first below.queue below.transfer → BeginsAs beginning queued below.queue → GoesInOrder first (record old { queued = queued; queues = below; prepared = []; beginning = beginning })
 starts_in_order first old queued below beginning small g awaited fit waits none begun =
     let w = waits_from queued below.queue waits in
     let s = started_stands first old queued below beginning g.stands awaited small fit w.waits none in
     let is = started_history first old queued below beginning g.stands awaited small fit w.waits none in
-    begins_so first (record old { queued = queued; queues = below; beginning = beginning }) s w.waits.floors is (ap (λ (a : Asking). a.out) awaited.asking) (ap (λ (a : Asking). a.requests) awaited.asking) (λ from. w.zero (begun.zero from))
+    begins_so first (record old { queued = queued; queues = below; prepared = []; beginning = beginning }) s w.waits.floors is (ap (λ (a : Asking). a.out) awaited.asking) (ap (λ (a : Asking). a.requests) awaited.asking) (λ from. w.zero (begun.zero from))
 
 run_in_order : (options : Options) (first size : ℕ) (direction : Direction) → first < 2 ^ 32 → length direction.queued < 2 ^ 64 → DirectionRun options first size direction → GoesInOrder first direction
 run_in_order options first size _ small few (begins direction b) = begins_in_order options first size direction small b

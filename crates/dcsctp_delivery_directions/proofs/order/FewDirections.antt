@@ -235,7 +235,7 @@ begins_few options first size direction small b =
     }
 
 starts_few : (first : ℕ) (old : Direction) (queued : List Message) (below : EndpointQueues) (beginning : Beginning) → first < 2 ^ 32 → (g : GoesFew first old) → (awaited : IsAwaited old) → AllByRecursion Fits queued → QueueWaits queued below.queue
-    → NoneInFlight first below.queue below.transfer → BeginsAs beginning queued below.queue → GoesFew first (record old { queued = queued; queues = below; beginning = beginning })
+    → NoneInFlight first below.queue below.transfer → BeginsAs beginning queued below.queue → GoesFew first (record old { queued = queued; queues = below; prepared = []; beginning = beginning })
 starts_few first old queued below beginning small g awaited fit waits none begun =
     let w = waits_from queued below.queue waits in
     let s = started_stands first old queued below beginning g.stands awaited small fit w.waits none in
@@ -245,7 +245,7 @@ starts_few first old queued below beginning small g awaited fit waits none begun
       unperformed = ap (λ (a : Asking). a.is_performed) awaited.asking;
       zero = λ from kind id. ap (λ (h : History). h.floors id false) is ∙ w.plain kind (begun.zero from) id;
       idle = g.idle;
-      arrives = λ counts. arrives_none first (record old { queued = queued; queues = below; beginning = beginning }) s w.waits.floors is counts;
+      arrives = λ counts. arrives_none first (record old { queued = queued; queues = below; prepared = []; beginning = beginning }) s w.waits.floors is counts;
     }
 
 run_few : (options : Options) (first size : ℕ) (direction : Direction) → first < 2 ^ 32 → length direction.queued < 2 ^ 64 → DirectionRun options first size direction → direction.asking.requests ≡ [] → GoesFew first direction

@@ -376,7 +376,7 @@ begins_plain whole these options first size direction small kind b =
 
 starts_plain : (whole : Bool) (these : ℕ → Bool) (options : Options) (first size : ℕ) (old : Direction) (queued : List Message) (below : EndpointQueues) (beginning : Beginning) → first < 2 ^ 32 → DirectionRun options first size old → Stands first old → (awaited : IsAwaited old)
     → AllByRecursion Fits queued → QueueWaits queued below.queue → NoneInFlight first below.queue below.transfer → BeginsAs beginning queued below.queue → below.queue.is_interleaved ≡ false
-    → GoesPlain whole these first size (record old { queued = queued; queues = below; beginning = beginning })
+    → GoesPlain whole these first size (record old { queued = queued; queues = below; prepared = []; beginning = beginning })
 starts_plain whole these options first size old queued below beginning small run stands awaited fit waits none begun kind =
     let w = waits_from queued below.queue waits in
     let s = started_stands first old queued below beginning stands awaited small fit w.waits none in
@@ -389,7 +389,7 @@ starts_plain whole these options first size old queued below beginning small run
       unnamed = λ id kept. none_named id old.asking awaited.asking;
       kept = λ id kept are place message at on. inr ((begun.all id kept).waits place message at on);
       steady = λ unasked free. new_steady these size (part_overhead options) old.reassembly nothing.reassembly;
-      arrives = λ unasked counts can free. arrives_none whole these first (record old { queued = queued; queues = below; beginning = beginning }) s w.waits.floors is counts;
+      arrives = λ unasked counts can free. arrives_none whole these first (record old { queued = queued; queues = below; prepared = []; beginning = beginning }) s w.waits.floors is counts;
     }
 
 pub run_plain : (whole : Bool) (these : ℕ → Bool) (options : Options) (first size : ℕ) (direction : Direction) → first < 2 ^ 32 → length direction.queued < 2 ^ 64 → DirectionRun options first size direction → direction.queues.queue.is_interleaved ≡ false

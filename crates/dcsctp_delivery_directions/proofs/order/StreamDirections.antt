@@ -366,12 +366,12 @@ begins_gapless gapless options first size direction small b kept =
 
 starts_gapless : (gapless : ℕ → Bool) (first : ℕ) (old : Direction) (queued : List Message) (below : EndpointQueues) (beginning : Beginning) → first < 2 ^ 32 → (stands : Stands first old) → (awaited : IsAwaited old) → AllByRecursion Fits queued
     → QueueWaits queued below.queue → NoneInFlight first below.queue below.transfer → BeginsAs beginning queued below.queue → AreKept gapless beginning
-    → GoesOnGapless gapless first (record old { queued = queued; queues = below; beginning = beginning })
+    → GoesOnGapless gapless first (record old { queued = queued; queues = below; prepared = []; beginning = beginning })
 starts_gapless gapless first old queued below beginning small stands awaited fit waits none begun kept =
     let w = waits_from queued below.queue waits in
     let s = started_stands first old queued below beginning stands awaited small fit w.waits none in
     let is = started_history first old queued below beginning stands awaited small fit w.waits none in
-    begins_so gapless first (record old { queued = queued; queues = below; beginning = beginning }) s w.waits.floors is (ap (λ (a : Asking). a.out) awaited.asking) (ap (λ (a : Asking). a.requests) awaited.asking)
+    begins_so gapless first (record old { queued = queued; queues = below; prepared = []; beginning = beginning }) s w.waits.floors is (ap (λ (a : Asking). a.out) awaited.asking) (ap (λ (a : Asking). a.requests) awaited.asking)
     (λ from. w.zero (begun.zero from)) (λ id is. begun.all id (kept id is))
 
 run_gapless : (gapless : ℕ → Bool) (options : Options) (first size : ℕ) (direction : Direction) → first < 2 ^ 32 → length direction.queued < 2 ^ 64 → AreFree gapless direction.queued

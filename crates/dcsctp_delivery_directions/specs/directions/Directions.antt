@@ -85,6 +85,11 @@ pub record PerformedReset : Type 0 where
 abbrev pub reset_performed : List ℕ → List MessageContent → ReassemblyState → PerformedReset
 reset_performed streams read reassembly = record { streams = streams; index = length read + length reassembly.incoming.ready }
 
+-- A call by which the sender's user resets these streams, and how many messages were queued then.
+pub record PreparedReset : Type 0 where
+  pub ids : List ℕ
+  pub count : ℕ
+
 -- One direction of an association, as both of its ends have it.
 pub record Direction : Type 0 where
   -- what was queued since the sending socket was made, newest first
@@ -105,6 +110,8 @@ pub record Direction : Type 0 where
   -- the resets that it has performed, newest first
   pub performed : List PerformedReset
   pub asking : Asking
+  -- the calls by which the sender's user resets streams, newest first
+  pub prepared : List PreparedReset
   pub beginning : Beginning
 
 -- A request that was begun names these streams.
@@ -166,7 +173,7 @@ pub data DirectionStep (old : Direction) : Direction → Type 0 where
   -- it, and none fails.
   sets : (setting : Setting) → SettingFits setting → DirectionStep old (record old { queues = record old.queues { queue = set_in_queue setting old.queues.queue } })
   prepares : (ids : List ℕ) → AllByRecursion (λ id. id < 2 ^ 16) ids → AllByRecursion (MayReset old.beginning (length old.queued) old.queues.queue.streams) ids
-      → DirectionStep old (record old { queues = record old.queues { queue = prepared_all ids old.queues.queue } })
+      → DirectionStep old (record old { queues = record old.queues { queue = prepared_all ids old.queues.queue }; prepared = record { ids = ids; count = length old.queued } ∷ old.prepared })
   commits : (old.queues.queue.is_interleaved ≡ true → (old.asking.out ≤ 1) × (old.asking.is_performed ≡ true))
       → DirectionStep old (record old { queues = record old.queues { queue = queue_committed old.queues.queue }; asking = all_ended old.asking })
   rolls_back : old.queues.queue.is_interleaved ≡ false → DirectionStep old (record old { queues = record old.queues { queue = queue_rolled_back old.queues.queue }; asking = all_ended old.asking })
@@ -276,6 +283,7 @@ pub record BeginsDirection (options : Options) (first size : ℕ) (direction : D
   pub read : direction.read ≡ []
   pub performed : direction.performed ≡ []
   pub asking : direction.asking ≡ nothing_asked
+  pub prepared : direction.prepared ≡ []
   pub begun : BeginsAs direction.beginning direction.queued direction.queues.queue
 
 -- Its sender has no association yet.
@@ -292,7 +300,7 @@ pub data DirectionRun (options : Options) (first size : ℕ) : Direction → Typ
   goes_on : (old direction : Direction) → DirectionRun options first size old → DirectionStep old direction → DirectionRun options first size direction
   -- The sender begins after the receiver.
   starts : (old : Direction) (queued : List Message) (sender_queues : EndpointQueues) (beginning : Beginning) → DirectionRun options first size old → IsAwaited old → AllByRecursion Fits queued → QueueWaits queued sender_queues.queue → NoneInFlight first sender_queues.queue sender_queues.transfer
-      → BeginsAs beginning queued sender_queues.queue → DirectionRun options first size (record old { queued = queued; queues = sender_queues; beginning = beginning })
+      → BeginsAs beginning queued sender_queues.queue → DirectionRun options first size (record old { queued = queued; queues = sender_queues; prepared = []; beginning = beginning })
 
 -- Each message that was read was queued, and none twice.
 pub record AreDelivered (queued : List Message) (read : List MessageContent) : Type 0 where

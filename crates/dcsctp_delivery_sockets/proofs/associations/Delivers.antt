@@ -14,7 +14,7 @@ use Rattle.dcsctp_delivery_directions.specs.sending.ChunkCounts.{chunks_to}
 use Rattle.dcsctp_delivery_directions.specs.sending.Marking.{IsMarked}
 use Rattle.dcsctp_delivery_directions.proofs.sending.Places.{decide, set_same, at_below}
 use Rattle.dcsctp_delivery_directions.specs.receiving.Ready.{AreDistinct, WasQueued, WereQueued}
-use Rattle.dcsctp_delivery_directions.specs.directions.Directions.{nothing_asked, AreDelivered}
+use Rattle.dcsctp_delivery_directions.specs.directions.Directions.{PreparedReset, nothing_asked, AreDelivered}
 use Rattle.dcsctp_delivery_directions.specs.directions.Marking.{IsUnspent, AreDeliveredForGood}
 use Rattle.dcsctp_delivery_directions.proofs.directions.ChunkCounts.{few_for_chunks}
 use Rattle.dcsctp_delivery_directions.proofs.directions.Marking.{directions_deliver_for_good}
@@ -140,8 +140,8 @@ module _ (options : Options) (ends : Ends) (e : Endpoint) (queued : List Message
 
 -- ---- two sockets that were just made
 
-pub ends_begin : (calls : ResetCalls) (mine options : Options) → AreEnds calls [] options (sending_side (fresh_endpoint mine) [] [] []) (receiving_side (fresh_endpoint options) [] nothing_read)
-ends_begin calls mine options =
+pub ends_begin : (calls : ResetCalls) (mine options : Options) → calls.made ≡ [] → AreEnds calls [] options (sending_side (fresh_endpoint mine) [] [] []) (receiving_side (fresh_endpoint options) [] nothing_read)
+ends_begin calls mine options unmade =
     record {
       ends = record { sends = λ tag. nothing; gets = λ tag. new_end options 0; firsts = λ tag. 0; latest = λ tag. 0; former = λ tag. None; calls = calls };
       is = refl;
@@ -172,10 +172,12 @@ ends_begin calls mine options =
         asks = tt;
         numbered = λ tag some anew. refl;
         kept = λ tag some only. record { whole = refl; keeps = λ id never. never };
+        made = λ tag some only call has. absurd (subst (λ (l : List PreparedReset). HasEntry call l) unmade has);
+        unmade = λ never. unmade;
         dropping = λ tag. record { dropped = λ id resets. resets; asks = refl; empties = refl };
         rules = fresh_takes_turns mine;
         unbegun = λ never. record { unlinked = refl; idle = refl; zero = fresh_is_at_zero mine; all = λ id. record { waits = λ place message at. absurd (cc); unpaused = tt } };
-        receiver = record { fits = record { first = 0; asking = nothing_asked; fits = tt }; current = λ transfer there. absurd (cc); left = inl refl; last = λ link is. absurd (cc); were_read = λ tag. refl; were_reset = λ report has. absurd has; begun = λ tag. inl refl; last_of = inl refl; reads_of = tt };
+        receiver = record { fits = record { first = 0; asking = nothing_asked; fits = tt }; current = λ transfer there. absurd (cc); left = inl refl; last = λ link is. absurd (cc); were_read = λ tag. refl; were_reset = λ report has. absurd has; were_told = λ plainly tag reset has. absurd has; begun = λ tag. inl refl; last_of = inl refl; reads_of = tt };
         alone = λ tag. inr (senders_begin options options 0 options.max_receiver_window_buffer_size (λ id. false) (λ id count. false) (λ id count. false));
       };
       answered = record {
@@ -198,7 +200,7 @@ ends_begin calls mine options =
     }
   where
     nothing : SendingEnd
-    nothing = record { queued = []; queues = record { queue = empty_queue mine; transfer = None }; acknowledged = 0; sent = []; asking = nothing_asked; beginning = record { from_zero = true; has_all = true; keeps = calls.never; asks = calls.asks; empties = calls.empties } }
+    nothing = record { queued = []; queues = record { queue = empty_queue mine; transfer = None }; acknowledged = 0; sent = []; asking = nothing_asked; prepared = []; beginning = record { from_zero = true; has_all = true; keeps = calls.never; asks = calls.asks; empties = calls.empties } }
 
     awaits : Awaits nothing
-    awaits = record { queued = refl; sent = refl; acknowledged = refl; transfer = refl; asking = refl; begun = record { zero = λ is. fresh_at_zero mine; whole = λ is id. record { waits = λ place message at. absurd (cc); unpaused = tt }; all = λ id is. record { waits = λ place message at. absurd (cc); unpaused = tt } } }
+    awaits = record { queued = refl; sent = refl; acknowledged = refl; transfer = refl; asking = refl; prepared = refl; begun = record { zero = λ is. fresh_at_zero mine; whole = λ is id. record { waits = λ place message at. absurd (cc); unpaused = tt }; all = λ id is. record { waits = λ place message at. absurd (cc); unpaused = tt } } }

@@ -16,7 +16,7 @@ use Rattle.dcsctp_delivery_directions.proofs.sending.HeldOn.{unlimited_on_at}
 use Rattle.dcsctp_delivery_directions.specs.receiving.Ready.{WereQueued}
 use Rattle.dcsctp_delivery_directions.proofs.directions.ChunkCounts.{few_for_chunks}
 use Rattle.dcsctp_delivery_directions.proofs.directions.Directions.{directions_deliver}
-use Rattle.dcsctp_delivery_directions.specs.directions.Directions.{PerformedReset, Asking, Direction, assigned_count}
+use Rattle.dcsctp_delivery_directions.specs.directions.Directions.{PerformedReset, PreparedReset, Asking, Direction, assigned_count}
 use Rattle.dcsctp_delivery_directions.specs.directions.Requests.{requests_to}
 use Rattle.dcsctp_delivery_directions.proofs.directions.RequestCounts.{requests_are_sent}
 use Rattle.dcsctp_delivery_directions.proofs.directions.Forwards.{unlimited_forward_nothing}
@@ -32,12 +32,14 @@ use Rattle.dcsctp_delivery_directions.proofs.order.PlainDirections.{plain_direct
 use Rattle.dcsctp_delivery_directions.proofs.order.StreamDirections.{streams_deliver_without_gaps, directions_deliver_without_gaps}
 use Rattle.dcsctp_delivery_directions.proofs.order.FewDirections.{plain_few_deliver_in_order}
 use Rattle.dcsctp_delivery_directions.specs.order.PlainDirections.{FewOnEachStream}
+use Rattle.dcsctp_delivery_directions.specs.epochs.Reports.{IsReadOn, AreCutByCalls}
+use Rattle.dcsctp_delivery_directions.proofs.epochs.PauseRuns.{directions_cut_by_calls}
 use Rattle.dcsctp_delivery_directions.specs.epochs.Asked.{AreCutAsAsked}
 use Rattle.dcsctp_delivery_directions.proofs.epochs.CutsAsked.{none_performed, directions_cut_as_asked}
 use Rattle.dcsctp_delivery_sockets.proofs.associations.FewMarks.{few_marks}
 use Rattle.dcsctp_delivery_directions.proofs.order.PlainFront.{plain_streams_deliver_without_gaps, plain_directions_deliver_without_gaps}
-use Rattle.dcsctp_delivery_sockets.specs.associations.Ends.{ReceivingEnd, direction_of_ends, Ends, sender_key, HadKind, IsOnlyOwn, NumbersFromZero, Awaits, chunks_before, IsCurrentEnd, Between, sending_side, receiving_side}
-use Rattle.dcsctp_delivery_sockets.specs.associations.InOrder.{full_asks, InterleavesUnder, IsReliableKept, AreThrough}
+use Rattle.dcsctp_delivery_sockets.specs.associations.Ends.{ResetCalls, ReceivingEnd, direction_of_ends, Ends, sender_key, HadKind, IsOnlyOwn, NumbersFromZero, Awaits, chunks_before, IsCurrentEnd, Between, sending_side, receiving_side}
+use Rattle.dcsctp_delivery_sockets.specs.associations.InOrder.{AreCutByUser, full_asks, InterleavesUnder, IsReliableKept, AreThrough}
 use Rattle.dcsctp_delivery_sockets.specs.associations.Reads.{Reading, with_key}
 use Rattle.dcsctp_delivery_sockets.proofs.associations.Delivers.{were_unmarked}
 use Rattle.dcsctp_delivery_sockets.proofs.associations.Senders.{link_tag}
@@ -367,8 +369,84 @@ module _ (options : Options) (ends : Ends) (e : Endpoint) (queued : List Message
   pub ends_cut_as_asked : (tag : ℕ) → NumbersFromZero e past tag → InterleavesUnder past tag → AreCutAsAsked false room_known ends.calls.asks full_calls (ends.gets tag).performed queued (with_key tag reading.reads)
   ends_cut_as_asked tag = cut_so false tag (λ some is. absurd (cc))
 
-  pub ends_cut_without_gaps : (tag : ℕ) → IsOnlyOwn past tag → InterleavesUnder past tag → AreCutAsAsked true room_known ends.calls.asks full_calls (ends.gets tag).performed queued (with_key tag reading.reads)
-  ends_cut_without_gaps tag only = cut_so true tag (λ some is. (h.kept tag some only).whole) (inr only)
+  -- With the calls of the user, of the only tag.
+  module _ (tag : ℕ) (only : IsOnlyOwn past tag) (interleaves : InterleavesUnder past tag) where
+    -- what is known of the sender
+    abbrev calls_with : (ℕ → ℕ → Bool) → (ℕ → ℕ → Bool) → List PreparedReset → ResetCalls
+    calls_with asks empties made = record { never = ends.calls.never; asks = asks; empties = empties; made = made }
+
+    abbrev ByUser : ResetCalls → Type 0
+    ByUser calls = AreCutByUser calls options.max_receiver_window_buffer_size (ends.gets tag).performed (ends.sends tag).queued (with_key tag reading.reads)
+
+    own_cut : AreCutByCalls options.max_receiver_window_buffer_size (record (own tag) { read = with_key tag reading.reads }) → (ends.sends tag).beginning.has_all ≡ true → ByUser (calls_with (ends.sends tag).beginning.asks (ends.sends tag).beginning.empties (ends.sends tag).prepared)
+    unfolding cut_if
+    own_cut c all =
+        record {
+          cut = cut_if true (ends.sends tag).beginning.has_all room_known (ends.sends tag).beginning.asks (full_asks (ends.sends tag).beginning.empties options.max_receiver_window_buffer_size) (ends.gets tag).performed (ends.sends tag).queued (with_key tag reading.reads) (λ is. all) c.cut;
+          between = c.between;
+        }
+
+    made_so : tag ≢ 0 → ByUser (calls_with ends.calls.asks ends.calls.empties (ends.sends tag).prepared) → AreCutByUser ends.calls options.max_receiver_window_buffer_size (ends.gets tag).performed queued (with_key tag reading.reads)
+    unfolding cut_unmarked
+    made_so some c =
+        record {
+          cut = cut_unmarked true room_known ends.calls.asks full_calls (ends.gets tag).performed (ends.sends tag).queued queued (with_key tag reading.reads) (h.sender.marks tag) (h.sender.short tag) c.cut;
+          between = λ id earlier later count was empties one two from to. (
+              let places : List ℕ = c.cut.ordered.delivered.places in
+              let b = c.between id earlier later count (record { call = was.call; has = h.made tag some only was.call was.has; named = was.named; count_is = was.count_is }) empties (read_mark id places earlier one c.cut.ordered.delivered.were_queued)
+              (read_mark id places later two c.cut.ordered.delivered.were_queued) from to in
+              record {
+                reset = b.reset;
+                has = b.has;
+                names = b.names;
+                place = b.place;
+                asked = b.asked;
+                from = b.from;
+                to = b.to;
+                separates = separate_unmarked (ends.sends tag).queued queued id b.reset.index b.place places (with_key tag reading.reads) (h.sender.marks tag) c.cut.ordered.delivered.were_queued b.separates;
+              }
+              );
+        }
+      where
+        read_mark : (id : ℕ) (places : List ℕ) (place : ℕ) → IsReadOn queued id places place → WereQueued (ends.sends tag).queued places (with_key tag reading.reads) → IsReadOn (ends.sends tag).queued id places place
+        read_mark id places place r were =
+            record { on = is_message (ends.sends tag).queued queued id place (h.sender.marks tag) (mark_at (ends.sends tag).queued place places (with_key tag reading.reads) were r.has) r.on; has = r.has }
+
+    nothing_read_then : with_key tag reading.reads ≡ [] → (ends.gets tag).performed ≡ [] → AreCutByUser ends.calls options.max_receiver_window_buffer_size (ends.gets tag).performed queued (with_key tag reading.reads)
+    nothing_read_then none none' =
+        let ordered : AreDeliveredInOrder queued (with_key tag reading.reads) = nothing_in_order queued (with_key tag reading.reads) none in
+        record {
+          cut = record {
+            ordered = ordered;
+            cut = λ id reset has. absurd (subst (HasEntry reset) none' has);
+            no_gap = λ is id earlier later has. absurd (no_place ordered.delivered.places (with_key tag reading.reads) none ordered.delivered.were_queued later has);
+          };
+          between = λ id earlier later count was empties one. absurd (no_place ordered.delivered.places (with_key tag reading.reads) none ordered.delivered.were_queued earlier one.has);
+        }
+      where
+        no_place : (places : List ℕ) (contents : List MessageContent) → contents ≡ [] → WereQueued queued places contents → (place : ℕ) → HasEntry place places → ⊥
+        no_place [] contents none were place has = has
+        no_place (p ∷ places) [] none were place has = were
+        no_place (p ∷ places) (c ∷ contents) none were place has = absurd (cc)
+
+    by_user : AreCutByUser ends.calls options.max_receiver_window_buffer_size (ends.gets tag).performed queued (with_key tag reading.reads)
+    by_user =
+        elim (decide tag 0) [
+          | inl nought ↦ nothing_read_then (none_at_zero tag nought) (nothing_performed tag (inl nought))
+          | inr some ↦ elim (h.sender.kinds tag some) [
+            | inl waits ↦ nothing_read_then (none_awaited tag waits) (nothing_performed tag (inr waits))
+            | inr had ↦
+                made_so some
+                (subst (λ (asks : ℕ → ℕ → Bool). ByUser (calls_with asks ends.calls.empties (ends.sends tag).prepared)) (h.dropping tag).asks
+                (subst (λ (empties : ℕ → ℕ → Bool). ByUser (calls_with (ends.sends tag).beginning.asks empties (ends.sends tag).prepared)) (h.dropping tag).empties
+                (own_cut (subst (λ (l : List MessageContent). AreCutByCalls options.max_receiver_window_buffer_size (record (own tag) { read = l })) (sym (h.receiver.were_read tag))
+                (directions_cut_by_calls options (ends.firsts tag) options.max_receiver_window_buffer_size (own tag) (h.runs tag) (h.small tag) (little tag) (short tag)
+                (sym (had.kind_is interleaves.0 interleaves.1 interleaves.2) ∙ interleaves.3) (h.numbered tag some (inr only)))) (h.kept tag some only).whole)))
+          ]
+        ]
+
+  pub ends_cut_without_gaps : (tag : ℕ) → IsOnlyOwn past tag → InterleavesUnder past tag → AreCutByUser ends.calls options.max_receiver_window_buffer_size (ends.gets tag).performed queued (with_key tag reading.reads)
+  ends_cut_without_gaps tag only interleaves = by_user tag only interleaves
 
   pub ends_deliver_by_stream : (tag : ℕ) → IsOnlyOwn past tag → InterleavesUnder past tag → AreDeliveredByStream ends.calls.never queued (with_key tag reading.reads)
   ends_deliver_by_stream tag only interleaves =

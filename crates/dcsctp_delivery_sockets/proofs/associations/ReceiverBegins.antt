@@ -20,14 +20,14 @@ use Rattle.dcsctp_delivery_directions.specs.sending.Places.{HasEntry, table_with
 use Rattle.dcsctp_delivery_directions.specs.sending.Log.{Message}
 use Rattle.dcsctp_delivery_directions.proofs.sending.Places.{decide, set_same, set_other}
 use Rattle.dcsctp_delivery_directions.specs.directions.Directions as steps
-use Rattle.dcsctp_delivery_directions.specs.directions.Directions.{HasReached, DirectionRun}
+use Rattle.dcsctp_delivery_directions.specs.directions.Directions.{PerformedReset, HasReached, DirectionRun}
 use Rattle.dcsctp_delivery_directions.proofs.directions.Directions.{direction_queues}
 use Rattle.dcsctp_delivery_sockets.specs.turns.Actions.{AreReports, begun_transfer, content_of_input, peer_tag, IsCall}
 use Rattle.dcsctp_delivery_sockets.specs.turns.ToldResets.{ReportsResets}
 use Rattle.dcsctp_delivery_sockets.specs.turns.Reporting.{IsReachedBetween, TurnReports, reports_on, reports_anew, reports_nothing, reports_nowhere}
 use Rattle.dcsctp_delivery_sockets.specs.turns.Asking.{own_of, AsksFit}
 use Rattle.dcsctp_delivery_sockets.specs.turns.Runs.{OpensAssociation}
-use Rattle.dcsctp_delivery_sockets.specs.associations.Ends.{SendingEnd, ReceivingEnd, direction_of_ends, new_end, Ends, sender_key, HadPeer, Awaits, Sender, NewTag, HadTag, Receiver, unbegun_end, MetOrAlone, AreHeard, AreSeen, Between, sending_side, receiving_side}
+use Rattle.dcsctp_delivery_sockets.specs.associations.Ends.{WasTold, SendingEnd, ReceivingEnd, direction_of_ends, new_end, Ends, sender_key, HadPeer, Awaits, Sender, NewTag, HadTag, Receiver, unbegun_end, MetOrAlone, AreHeard, AreSeen, Between, sending_side, receiving_side}
 use Rattle.dcsctp_delivery_sockets.specs.associations.Reads.{Tags, tags_of, Reading, tags_or, reached_index, resets_after, with_key}
 use Rattle.dcsctp_delivery_sockets.proofs.associations.Growing.{set_all}
 use Rattle.dcsctp_delivery_sockets.proofs.associations.Growing.{set_three}
@@ -39,7 +39,7 @@ use Rattle.dcsctp_delivery_sockets.proofs.turns.Runs.{senders_begin}
 use Rattle.dcsctp_delivery_sockets.proofs.associations.WhatIsLeft.{goes_left}
 use Rattle.dcsctp_delivery_sockets.specs.associations.Answered.{AreAnswered}
 use Rattle.dcsctp_delivery_sockets.specs.associations.Laws.{TellsPerformed, AreEnds}
-use Rattle.dcsctp_delivery_sockets.proofs.associations.WhatIsReset.{still_reported, reset_stays}
+use Rattle.dcsctp_delivery_sockets.proofs.associations.WhatIsReset.{still_told, still_reported, reset_stays}
 use Rattle.dcsctp_delivery_sockets.proofs.turns.PeersTurns.{calm_asks_nothing}
 use Rattle.dcsctp_delivery_sockets.proofs.associations.AnsweringRests.{none_performed}
 use Rattle.dcsctp_delivery_sockets.proofs.associations.ReceiverOpens.{opening_calm, opens_answered}
@@ -148,6 +148,8 @@ module _ (options : Options) (ends : Ends) (e : Endpoint) (queued : List Message
               (set_all (λ t g. HasEntry report.reset (ends.gets t).performed → HasEntry report.reset g.performed) tag got ends.gets
               (λ was. absurd (subst (λ (g : ReceivingEnd). HasEntry report.reset g.performed) fresh was)) (λ t ne was. was)) (of_link_later o.effects their_past report.tags)
               (h.receiver.were_reset report (still_reported reading.last (reached_index d input o reading) reading.resets report o shows none_here has));
+          were_told = λ plainly. set_all (λ t g. (reset : PerformedReset) → HasEntry reset g.performed → WasTold (resets_after d input o reading) t reset) tag got ends.gets (λ reset has. absurd has)
+              (λ t ne reset has. still_told reading.last (reached_index d input o reading) o.events reading.resets t reset (h.receiver.were_told plainly t reset has));
           begun = λ t. elim (decide t tag) [
             | inl e' ↦ inr (subst (λ (n : ℕ). HadTag (after_effects o.effects their_past) n (firsts n)) (sym e') (subst (λ (n : ℕ). HadTag (after_effects o.effects their_past) tag n) (sym here) had_new))
             | inr ne ↦ other t ne (h.receiver.begun t)
@@ -232,6 +234,8 @@ module _ (options : Options) (ends : Ends) (e : Endpoint) (queued : List Message
             asks = h.asks;
             numbered = h.numbered;
             kept = h.kept;
+            made = h.made;
+            unmade = h.unmade;
             dropping = h.dropping;
             rules = h.rules;
             unbegun = h.unbegun;
@@ -262,6 +266,7 @@ module _ (options : Options) (ends : Ends) (e : Endpoint) (queued : List Message
           read = refl;
           performed = refl;
           asking = waits.asking;
+          prepared = waits.prepared;
           begun = waits.begun;
         }) in
         record {
@@ -274,6 +279,8 @@ module _ (options : Options) (ends : Ends) (e : Endpoint) (queued : List Message
             asks = subst (λ (n : ℕ). AsksFit n (own_of e) (ends.sends (sender_key e.core)).asking) (sym (set_other tag (sender_key e.core) first ends.firsts (λ is'. apart (sym is')))) h.asks;
             numbered = h.numbered;
             kept = h.kept;
+            made = h.made;
+            unmade = h.unmade;
             dropping = h.dropping;
             rules = h.rules;
             unbegun = h.unbegun;

@@ -19,7 +19,7 @@ use Rattle.dcsctp_delivery_directions.specs.sending.Log.{Message}
 use Rattle.dcsctp_delivery_directions.proofs.sending.Places.{decide, set_same, set_other}
 use Rattle.dcsctp_spec_laws.specs.LeftLaws.{without_first_message, left_once}
 use Rattle.dcsctp_delivery_directions.specs.directions.Directions as directions
-use Rattle.dcsctp_delivery_directions.specs.directions.Directions.{DirectionRun}
+use Rattle.dcsctp_delivery_directions.specs.directions.Directions.{PerformedReset, DirectionRun}
 use Rattle.dcsctp_delivery_sockets.specs.associations.Answered.{requests_of, waiting_deferral, AreAnswered}
 use Rattle.dcsctp_delivery_sockets.proofs.associations.AnsweringRests.{same_requests}
 use Rattle.dcsctp_delivery_sockets.proofs.associations.ReceiverOpens.{rests_answered}
@@ -27,13 +27,13 @@ use Rattle.dcsctp_spec_lemmas.specs.types.declared.association.Pair.{Pair}
 use Rattle.dcsctp_spec_runs.specs.Past.{WasPerformed}
 use Rattle.dcsctp_delivery_sockets.specs.turns.Actions.{peer_tag, IsCall}
 use Rattle.dcsctp_delivery_sockets.specs.turns.Asking.{own_of, SomeFit}
-use Rattle.dcsctp_delivery_sockets.specs.associations.Ends.{ReceivingEnd, direction_of_ends, new_end, Ends, sender_key, HadTag, LeavesReady, unbegun_end, MetOrAlone, AreHeard, AreSeen, Between, sending_side, receiving_side}
+use Rattle.dcsctp_delivery_sockets.specs.associations.Ends.{WasTold, ReceivingEnd, direction_of_ends, new_end, Ends, sender_key, HadTag, LeavesReady, unbegun_end, MetOrAlone, AreHeard, AreSeen, Between, sending_side, receiving_side}
 use Rattle.dcsctp_delivery_sockets.specs.associations.Reads.{Tags, ReadMessage, Reading, tags_or, reached_index, resets_after, reading_after, tagged_after, and_first, with_key}
 use Rattle.dcsctp_delivery_sockets.proofs.associations.WhatIsLeft.{left_idle, left_taken}
 use Rattle.dcsctp_delivery_sockets.proofs.associations.WhatIsRead.{all_of_first, all_of_later, of_link_later, MayRead, reads_first, reads_none, may_read, first_own, first_other}
 use Rattle.dcsctp_delivery_sockets.proofs.associations.Growing.{set_all}
 use Rattle.dcsctp_delivery_sockets.specs.associations.Laws.{TellsPerformed, AreEnds}
-use Rattle.dcsctp_delivery_sockets.proofs.associations.WhatIsReset.{still_reported, reset_stays}
+use Rattle.dcsctp_delivery_sockets.proofs.associations.WhatIsReset.{still_told, still_reported, reset_stays}
 use Rattle.dcsctp_theorem_association.proofs.Growth.{after_within}
 use Rattle.dcsctp_delivery_sockets.proofs.associations.Heard.{HasGrown, not_grown, heard_later, heard_all, heard_nothing, heard_nowhere}
 use Rattle.dcsctp_delivery_sockets.proofs.associations.Seen.{seen_turn}
@@ -85,6 +85,8 @@ module _ (options : Options) (ends : Ends) (e : Endpoint) (queued : List Message
           asks = h.asks;
           numbered = h.numbered;
           kept = h.kept;
+          made = h.made;
+          unmade = h.unmade;
           dropping = h.dropping;
           rules = h.rules;
           unbegun = h.unbegun;
@@ -97,6 +99,7 @@ module _ (options : Options) (ends : Ends) (e : Endpoint) (queued : List Message
             were_reset = λ report has.
                 reset_stays ends.gets ends.gets their_past (after_effects o.effects their_past) report (λ t was. was) (of_link_later o.effects their_past report.tags)
                 (h.receiver.were_reset report (still_reported reading.last (reached_index d input o reading) reading.resets report o shows no_performs has));
+            were_told = λ plainly tag reset has. still_told reading.last (reached_index d input o reading) o.events reading.resets tag reset (h.receiver.were_told plainly tag reset has);
             begun = λ tag. begun_later options ends o.effects their_past tag (h.receiver.begun tag);
             last_of = of_link_later o.effects their_past reading.last h.receiver.last_of;
             reads_of = all_of_later o.effects their_past reading.reads h.receiver.reads_of;
@@ -138,6 +141,8 @@ module _ (options : Options) (ends : Ends) (e : Endpoint) (queued : List Message
             asks = h.asks;
             numbered = h.numbered;
             kept = h.kept;
+            made = h.made;
+            unmade = h.unmade;
             dropping = h.dropping;
             rules = h.rules;
             unbegun = h.unbegun;
@@ -152,6 +157,9 @@ module _ (options : Options) (ends : Ends) (e : Endpoint) (queued : List Message
                   reset_stays ends.gets (table_with tag got ends.gets) their_past (after_effects o.effects their_past) report
                   (set_all (λ t g. HasEntry report.reset (ends.gets t).performed → HasEntry report.reset g.performed) tag got ends.gets (λ was. was) (λ t ne was. was)) (of_link_later o.effects their_past report.tags)
                   (h.receiver.were_reset report (still_reported reading.last (reached_index d input o reading) reading.resets report o shows no_performs has));
+              were_told = λ plainly. set_all (λ t g. (reset : PerformedReset) → HasEntry reset g.performed → WasTold (resets_after d input o reading) t reset) tag got ends.gets
+                  (λ reset has. still_told reading.last (reached_index d input o reading) o.events reading.resets tag reset (h.receiver.were_told plainly tag reset has))
+                  (λ t ne reset has. still_told reading.last (reached_index d input o reading) o.events reading.resets t reset (h.receiver.were_told plainly t reset has));
               begun = λ t. elim (decide t tag) [
                 | inl e' ↦ inr (subst (λ (n : ℕ). HadTag (after_effects o.effects their_past) n (ends.firsts n)) (sym e') (had (h.receiver.begun tag)))
                 | inr ne ↦ elim (begun_later options ends o.effects their_past t (h.receiver.begun t)) [ inl new' ↦ inl (set_other tag t got ends.gets ne ∙ new') | inr had' ↦ inr had' ]

@@ -84,7 +84,7 @@ sender_asked ends tag asking got key to below queued past packets s still =
         ]
 
     still_awaits : (t : ℕ) → Awaits (ends.sends t) → Awaits ((asked_ends ends tag asking got).sends t)
-    still_awaits t waits = record { queued = waits.queued; sent = waits.sent; acknowledged = waits.acknowledged; transfer = waits.transfer; asking = awaits t waits.asking; begun = waits.begun }
+    still_awaits t waits = record { queued = waits.queued; sent = waits.sent; acknowledged = waits.acknowledged; transfer = waits.transfer; asking = awaits t waits.asking; prepared = waits.prepared; begun = waits.begun }
 
 -- The sender has begun no association under this tag.
 pub sender_first : (ends : Ends) (gets : ℕ → ReceivingEnd) (tag first key to : ℕ) (below : EndpointQueues) (queued : List Message) (past : List Effect) (packets : List Emission) → Sender ends key to below queued past packets

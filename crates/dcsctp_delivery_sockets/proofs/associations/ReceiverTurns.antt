@@ -40,10 +40,10 @@ use Rattle.dcsctp_delivery_sockets.specs.turns.Sides.{WasSent, receiving}
 use Rattle.dcsctp_delivery_sockets.specs.turns.Runs.{RecordsByTurn, reached_count, ReceiverTurns, receiver_goes_on, receiver_ends, receiver_begins, IdleTurns, idle_stays, idle_begins, taken_turn}
 use Rattle.dcsctp_delivery_sockets.proofs.turns.Runs.{receivers_go_on, receivers_begin}
 use Rattle.dcsctp_delivery_sockets.proofs.turns.Reporting.{turns_report}
-use Rattle.dcsctp_delivery_sockets.specs.associations.Ends.{LeavesReady, ReceivingEnd, direction_of_ends, new_end, Ends, sender_key, HadBoth, NewTag, HadTag, IsCurrentEnd, WasReset, unbegun_end, MetOrAlone, AreHeard, AreSeen, Between, sending_side, receiving_side}
+use Rattle.dcsctp_delivery_sockets.specs.associations.Ends.{WasTold, LeavesReady, ReceivingEnd, direction_of_ends, new_end, Ends, sender_key, HadBoth, NewTag, HadTag, IsCurrentEnd, WasReset, unbegun_end, MetOrAlone, AreHeard, AreSeen, Between, sending_side, receiving_side}
 use Rattle.dcsctp_delivery_sockets.specs.associations.Reads.{Tags, tags_of, ReadMessage, ReportedReset, Reading, tags_or, reached_index, resets_after, reading_after, tagged_after, with_key}
 use Rattle.dcsctp_delivery_sockets.proofs.associations.WhatIsLeft.{goes_left, ends_left}
-use Rattle.dcsctp_delivery_sockets.proofs.associations.WhatIsReset.{among_reported, reset_stays, reported_performed, performed_more, performed_none}
+use Rattle.dcsctp_delivery_sockets.proofs.associations.WhatIsReset.{still_told, told_now, performed_is_told, among_reported, reset_stays, reported_performed, performed_more, performed_none}
 use Rattle.dcsctp_spec_lemmas.specs.spec.endpoint.DataOutcomes.{ready_or_left}
 use Rattle.dcsctp_spec_lemmas.specs.types.queues.Messages.{MessageContent}
 use Rattle.dcsctp_delivery_sockets.proofs.associations.WhatIsRead.{all_of_after, all_of_later, of_link_later, reads_still, opening_still, own_read, other_read}
@@ -179,6 +179,29 @@ module _ (options : Options) (ends : Ends) (e : Endpoint) (queued : List Message
         go (reports_nothing gone says) = (let clash : ◌≡◌ {A = Option AssociationIdentity} None (Some c.link) = sym gone ∙ linked ∙ c.linked in absurd (cc))
         go (reports_nowhere none same' says) = (let clash : ◌≡◌ {A = Option Transfer} None (Some transfer) = sym none ∙ there in absurd (cc))
 
+    -- As many were read or can be.
+    reached_is : (left : Transfer) → o.after.queues.transfer ≡ Some left → reached_index d input o reading ≡ reached_count (read_after d input (ends.gets c.link.peer.tag).read) left
+    reached_is left is =
+        ap (λ (n : Tags). length (with_key n.peer (tagged_after n d input reading.reads)) + length (ready_or_left o.after.left o.after.queues.transfer)) (h.receiver.last c.link c.linked)
+        ∙ ap (λ (t : Option Transfer). length (with_key c.link.peer.tag (tagged_after (tags_of c.link) d input reading.reads)) + length (ready_or_left o.after.left t)) is
+        ∙ ap (λ (l : List MessageContent). length l + length left.reassembly.incoming.ready) (own_read (tags_of c.link) d input transfer reading.reads there ∙ ap (read_after d input) (h.receiver.were_read c.link.peer.tag))
+
+    -- What is performed in the turn is reported, without `follow_rfc`.
+    told_so : (left : Transfer) → o.after.queues.transfer ≡ Some left → (performed : List PerformedReset) → RecordsByTurn input o (reached_count (read_after d input (ends.gets c.link.peer.tag).read) left) (ends.gets c.link.peer.tag).performed performed
+        → ReportsResets d input o → options.follow_rfc ≡ false → (reset : PerformedReset) → HasEntry reset performed → WasTold (resets_after d input o reading) c.link.peer.tag reset
+    told_so left is performed records tells unruled reset has =
+        elim (performed_is_told d input o (reached_count (read_after d input (ends.gets c.link.peer.tag).read) left) (ends.gets c.link.peer.tag).performed tells (ap (λ (x : Options). x.follow_rfc) same ∙ unruled) performed records reset has) [
+          | inl before ↦ still_told reading.last (reached_index d input o reading) o.events reading.resets c.link.peer.tag reset (h.receiver.were_told unruled c.link.peer.tag reset before)
+          | inr now ↦
+              (let told = told_now reading.last (reached_index d input o reading) o.events reading.resets reset.streams now.1 in
+              record {
+                report = told.report;
+                has = told.has;
+                reset_is = told.reset_is ∙ ap (λ (n : ℕ). record { streams = reset.streams; index = n }) (reached_is left is ∙ sym now.0);
+                tag_is = told.tag_is ∙ ap (λ (t : Tags). t.peer) (h.receiver.last c.link c.linked);
+              })
+        ]
+
     -- What is reported in the turn was performed.
     reset_so : (left : Transfer) → o.after.queues.transfer ≡ Some left → (performed : List PerformedReset) → RecordsByTurn input o (reached_count (read_after d input (ends.gets c.link.peer.tag).read) left) (ends.gets c.link.peer.tag).performed performed
         → IsPlainRequest (content_of_input input) → (report : ReportedReset) → HasEntry report (resets_after d input o reading)
@@ -202,12 +225,8 @@ module _ (options : Options) (ends : Ends) (e : Endpoint) (queued : List Message
               (h.receiver.were_reset report old)
         ]
       where
-        -- as many were read or can be
         count_is : reached_index d input o reading ≡ reached_count (read_after d input (ends.gets c.link.peer.tag).read) left
-        count_is =
-            ap (λ (n : Tags). length (with_key n.peer (tagged_after n d input reading.reads)) + length (ready_or_left o.after.left o.after.queues.transfer)) (h.receiver.last c.link c.linked)
-            ∙ ap (λ (t : Option Transfer). length (with_key c.link.peer.tag (tagged_after (tags_of c.link) d input reading.reads)) + length (ready_or_left o.after.left t)) is
-            ∙ ap (λ (l : List MessageContent). length l + length left.reassembly.incoming.ready) (own_read (tags_of c.link) d input transfer reading.reads there ∙ ap (read_after d input) (h.receiver.were_read c.link.peer.tag))
+        count_is = reached_is left is
 
     receives : identity_of_core o.after.core ≡ identity_of_core d.core → (left : Transfer) → o.after.queues.transfer ≡ Some left → SomeFit (own_of o.after) → (asking : Asking)
         → ((ends.sends c.link.peer.tag).asking ≡ nothing_asked → asking ≡ nothing_asked) → ((first : ℕ) (own : Option Own) → AsksFit first own (ends.sends c.link.peer.tag).asking → AsksFit first own asking)
@@ -245,6 +264,8 @@ module _ (options : Options) (ends : Ends) (e : Endpoint) (queued : List Message
             ];
             numbered = h.numbered;
             kept = h.kept;
+            made = h.made;
+            unmade = h.unmade;
             dropping = h.dropping;
             rules = h.rules;
             unbegun = h.unbegun;
@@ -268,6 +289,8 @@ module _ (options : Options) (ends : Ends) (e : Endpoint) (queued : List Message
                   (own_read (tags_of c.link) d input transfer reading.reads there ∙ ap (read_after d input) (h.receiver.were_read tag))
                   (λ t ne. other_read (tags_of c.link) d input reading.reads t ne ∙ h.receiver.were_read t);
               were_reset = λ report has. reset_so left is performed records plainly report has;
+              were_told = λ unruled. set_all (λ t g. (reset : PerformedReset) → HasEntry reset g.performed → WasTold (resets_after d input o reading) t reset) tag got ends.gets (told_so left is performed records tells unruled)
+                  (λ t ne reset has'. still_told reading.last (reached_index d input o reading) o.events reading.resets t reset (h.receiver.were_told unruled t reset has'));
               begun = λ t. elim (decide t tag) [
                 | inl e' ↦ inr (subst (λ (n : ℕ). HadTag (after_effects o.effects their_past) n (ends.firsts n)) (sym e') (tag_later o.effects their_past tag (ends.firsts tag) c.had))
                 | inr ne ↦ others t ne got (begun_later options ends o.effects their_past t (h.receiver.begun t))

@@ -22,7 +22,7 @@ use Rattle.dcsctp_delivery_directions.specs.sending.Marking.{all_marked}
 use Rattle.dcsctp_delivery_directions.proofs.sending.Places.{decide, set_same, set_other}
 use Rattle.dcsctp_delivery_directions.proofs.sending.MarkingAll.{all_marked_keep, all_marked_fit}
 use Rattle.dcsctp_delivery_directions.specs.sending.Losing.{AllWaitOn}
-use Rattle.dcsctp_delivery_directions.specs.directions.Directions.{Direction, Asking, nothing_asked, DirectionRun, IsAwaited, BeginsAtZero, Beginning, BeginsAs}
+use Rattle.dcsctp_delivery_directions.specs.directions.Directions.{PreparedReset, PerformedReset, Direction, Asking, nothing_asked, DirectionRun, IsAwaited, BeginsAtZero, Beginning, BeginsAs}
 use Rattle.dcsctp_delivery_sockets.specs.turns.Actions.{peer_tag, BeginsAssociation}
 use Rattle.dcsctp_delivery_sockets.specs.turns.Asking.{own_of, AsksFit, AskingGrows}
 use Rattle.dcsctp_delivery_sockets.specs.turns.Addressed.{AreAddressed}
@@ -31,7 +31,7 @@ use Rattle.dcsctp_delivery_sockets.proofs.turns.Beginnings.{begun_at_zero}
 use Rattle.dcsctp_delivery_sockets.proofs.turns.Runs.{senders_begin}
 use Rattle.dcsctp_delivery_sockets.proofs.turns.Unbegun.{unbegun_begins_at_zero, unbegun_begins_waiting}
 use Rattle.dcsctp_delivery_sockets.proofs.associations.Held.{never_held, none_held, some_held}
-use Rattle.dcsctp_delivery_sockets.specs.associations.Ends.{SendingEnd, ReceivingEnd, direction_of_ends, new_end, Ends, HadPeer, HadKind, HadBoth, sender_key, unbegun_end, MetOrAlone, KeepsThese, KeepsOnlyThese, NumbersFromZero, Awaits, Sender, NewPeer, HadTag, IsCurrentEnd, Receiver, AreSeen, Between, IsOnlyOwn, IsBefore, sending_side, receiving_side}
+use Rattle.dcsctp_delivery_sockets.specs.associations.Ends.{WasTold, SendingEnd, ReceivingEnd, direction_of_ends, new_end, Ends, HadPeer, HadKind, HadBoth, sender_key, unbegun_end, MetOrAlone, KeepsThese, KeepsOnlyThese, NumbersFromZero, Awaits, Sender, NewPeer, HadTag, IsCurrentEnd, Receiver, AreSeen, Between, IsOnlyOwn, IsBefore, sending_side, receiving_side}
 use Rattle.dcsctp_delivery_directions.proofs.directions.RequestCounts.{requests_more_to, requests_are_sent}
 use Rattle.dcsctp_delivery_sockets.specs.associations.Answered.{AnswersRequests, requests_of, waiting_deferral, AreAnswered}
 use Rattle.dcsctp_delivery_sockets.proofs.associations.AskedOn.{MayBegin}
@@ -94,6 +94,7 @@ receiver_renewed options ends sends latest former d past reading tag first r fre
           reset_stays ends.gets (table_with tag (new_end options first) ends.gets) past past report
           (set_all (λ t g. HasEntry report.reset (ends.gets t).performed → HasEntry report.reset g.performed) tag (new_end options first) ends.gets
           (λ was. absurd (subst (λ (g : ReceivingEnd). HasEntry report.reset g.performed) fresh was)) (λ t ne was. was)) (λ of. of) (r.were_reset report has);
+      were_told = λ plainly. set_all (λ t g. (reset : PerformedReset) → HasEntry reset g.performed → WasTold reading.resets t reset) tag (new_end options first) ends.gets (λ reset has. absurd has) (λ t ne. r.were_told plainly t);
       begun = λ t. elim (decide t tag) [
         | inl e ↦
             inl (subst (λ (n : ℕ). table_with tag (new_end options first) ends.gets n ≡ new_end options (table_with tag first ends.firsts n)) (sym e)
@@ -134,7 +135,7 @@ module _ (options : Options) (ends : Ends) (e : Endpoint) (queued : List Message
   abbrev pub Later : Type 0
   Later = (other : Options) (room : ℕ) (awaiting : Direction) (queued : List Message) (beginning : Beginning) → QueueWaits queued e.queues.queue → AllByRecursion Fits queued → DirectionRun other begun.my.first_tsn room awaiting → IsAwaited awaiting
       → BeginsAs beginning queued begun.queue → (acknowledged : ℕ) × (asking : Asking) × AskingGrows nothing_asked asking × AsksFit begun.my.first_tsn (own_of o.after) asking
-      × DirectionRun other begun.my.first_tsn room (record (direction_with_sender awaiting queued o.after.queues acknowledged (packets_of_events o.events) asking) { beginning = beginning })
+      × DirectionRun other begun.my.first_tsn room (record (direction_with_sender awaiting queued o.after.queues acknowledged (packets_of_events o.events) asking) { prepared = []; beginning = beginning })
 
   pub new_held : HasEffect (holds new) (after_effects o.effects past)
   new_held = subst (λ (l : List Effect). HasEffect (holds new) (after_effects l past)) (sym begun.noted) (after_within begun.later (holds new ∷ past) (holds new) (inl refl))
@@ -212,6 +213,13 @@ module _ (options : Options) (ends : Ends) (e : Endpoint) (queued : List Message
         whole = ap (λ (b : Beginning). b.has_all) here ∙ first_of_all is only;
         keeps = λ id never. ap (λ (b : Beginning). b.keeps id) here ∙ ap (λ (b : Bool). b && never_held past) never ∙ first_of_all is only;
       })
+      (λ tag ne some only. absurd (ne (sym (only new new_held))))
+
+  -- No call was made before the only one.
+  made_anew : NewPeer past their_past new → (end : SendingEnd) → (tag : ℕ) → tag ≢ 0 → IsOnlyOwn (after_effects o.effects past) tag → (call : PreparedReset) → HasEntry call ends.calls.made → HasEntry call (table_with begun.my.tag end ends.sends tag).prepared
+  made_anew is end =
+      set_all (λ tag s. tag ≢ 0 → IsOnlyOwn (after_effects o.effects past) tag → (call : PreparedReset) → HasEntry call ends.calls.made → HasEntry call s.prepared) begun.my.tag end ends.sends
+      (λ some only call has. absurd (subst (λ (l : List PreparedReset). HasEntry call l) (h.unmade (none_held past (first_of_all is only))) has))
       (λ tag ne some only. absurd (ne (sym (only new new_held))))
 
   pub dropping_anew : (end : SendingEnd) → end.beginning ≡ begins_anew → (tag : ℕ) → KeepsOnlyThese ends.calls (table_with begun.my.tag end ends.sends tag).beginning
@@ -333,15 +341,17 @@ module _ (options : Options) (ends : Ends) (e : Endpoint) (queued : List Message
               (subst (λ (n : ℕ). AsksFit n (own_of o.after) run.1) (sym same) run.3));
           numbered = numbers_anew is end refl;
           kept = kept_anew is end refl;
+          made = made_anew is end;
+          unmade = λ never. absurd (never new new_held);
           dropping = dropping_anew end refl;
           rules = rules;
           unbegun = λ never. absurd (never new new_held);
-          receiver = receiver_same options ends ends'.sends ends'.latest ends'.former d their_past reading h.receiver;
+          receiver = receiver_same options ends ends'.sends ends'.latest ends'.former ends'.calls d their_past reading h.receiver;
           alone = λ tag. alone_later options ends ends' past (after_effects o.effects past) their_past their_past (after_within o.effects past) (λ effect has. has) tag refl refl (h.alone tag);
         };
         answered = answered_by ends' linked (table_with to begun.my w.pairs)
             (begins_answers ends e past d their_past w new is.some is.match waits.asking end ends.gets ends.firsts same (λ tag ne. refl)
-            (begins_little addressed options options.max_receiver_window_buffer_size run.0 run.1 (record (direction_of_ends (ends.sends to) (ends.gets to)) { beginning = begins_anew }) run.2 run.3 linked run.4) (λ other there tag. same) (after_effects o.effects past) (after_within o.effects past) new_held);
+            (begins_little addressed options options.max_receiver_window_buffer_size run.0 run.1 (record (direction_of_ends (ends.sends to) (ends.gets to)) { prepared = []; beginning = begins_anew }) run.2 run.3 linked run.4) (λ other there tag. same) (after_effects o.effects past) (after_within o.effects past) new_held);
         reported = seen_still ends ends' e past d their_past seen w (all_stay waits end) reported.heard reported;
       }
 
@@ -380,6 +390,8 @@ module _ (options : Options) (ends : Ends) (e : Endpoint) (queued : List Message
               (subst (λ (n : ℕ). AsksFit n (own_of o.after) run.1) (sym (set_same to first ends.firsts)) run.3));
           numbered = numbers_anew is end refl;
           kept = kept_anew is end refl;
+          made = made_anew is end;
+          unmade = λ never. absurd (never new new_held);
           dropping = dropping_anew end refl;
           rules = rules;
           unbegun = λ never. absurd (never new new_held);

@@ -17,10 +17,10 @@ use Rattle.dcsctp_spec_lemmas.specs.spec.association.Effect.{AssociationIdentity
 use Rattle.dcsctp_spec_lemmas.specs.spec.queues.Reassembly.{DeferralModel}
 use Rattle.dcsctp_theorem_association.proofs.Growth.{after_within}
 use Rattle.dcsctp_delivery_directions.specs.sending.ChunkCounts.{chunks_among_packets, chunks_to}
-use Rattle.dcsctp_delivery_directions.specs.sending.Places.{table_with}
+use Rattle.dcsctp_delivery_directions.specs.sending.Places.{HasEntry, table_with}
 use Rattle.dcsctp_delivery_directions.specs.sending.Log.{Message}
 use Rattle.dcsctp_delivery_directions.proofs.sending.Places.{decide, set_same, set_other}
-use Rattle.dcsctp_delivery_directions.specs.directions.Directions.{Asking, nothing_asked, DirectionRun}
+use Rattle.dcsctp_delivery_directions.specs.directions.Directions.{PreparedReset, Asking, nothing_asked, DirectionRun}
 use Rattle.dcsctp_delivery_directions.specs.directions.Requests.{requests_among_packets, requests_to}
 use Rattle.dcsctp_delivery_directions.proofs.directions.RequestCounts.{requests_more, requests_more_to, requests_are_sent, unasked_sends_none, nothing_was_asked}
 use Rattle.dcsctp_delivery_sockets.specs.turns.Actions.{content_of_input, peer_tag, Collides}
@@ -338,7 +338,7 @@ module _ (options : Options) (ends : Ends) (e : Endpoint) (queued : List Message
 
   sender_then : Sender later (sender_key e.core) goes.collision.opened.link.peer.tag o.after.queues queued (after_effects o.effects past) (packets ++ packets_of_events o.events)
   sender_then =
-      grown to_other key goes.collision.opened.link.peer.tag e.queues queued (after_effects o.effects past) packets readdressed [] [] o.after.queues outlasts.acknowledged ps outlasts.asking outlasts.addressed outlasts.kind (λ each has. has)
+      grown to_other key goes.collision.opened.link.peer.tag e.queues queued (after_effects o.effects past) packets readdressed [] [] o.after.queues outlasts.acknowledged ps outlasts.asking (ends.sends (sender_key e.core)).prepared ends.calls outlasts.addressed outlasts.kind (λ each has. has)
 
   same_then : sender_key o.after.core ≡ sender_key e.core
   same_then = link_tag o.after.core goes.collision.opened.link goes.collision.opened.linked ∙ sym key_is
@@ -392,10 +392,13 @@ module _ (options : Options) (ends : Ends) (e : Endpoint) (queued : List Message
               (λ tag ne some' anew. h.numbered tag some' (anew_before follows tag anew));
           kept = set_all (λ tag s. tag ≢ 0 → IsOnlyOwn (after_effects o.effects past) tag → KeepsThese ends.calls s.beginning) key end ends.sends
               (λ some' only. h.kept key some' (only_before key only)) (λ tag ne some' only. h.kept tag some' (only_before tag only));
+          made = set_all (λ tag s. tag ≢ 0 → IsOnlyOwn (after_effects o.effects past) tag → (call : PreparedReset) → HasEntry call ends.calls.made → HasEntry call s.prepared) key end ends.sends
+              (λ some' only. h.made key some' (only_before key only)) (λ tag ne some' only. h.made tag some' (only_before tag only));
+          unmade = λ never. absurd (never goes.collision.opened.link link_held);
           dropping = set_all (λ tag s. KeepsOnlyThese ends.calls s.beginning) key end ends.sends (h.dropping key) (λ tag ne. h.dropping tag);
           rules = rules;
           unbegun = λ never. absurd (never goes.collision.opened.link link_held);
-          receiver = receiver_same options ends later.sends later.latest later.former d their_past reading h.receiver;
+          receiver = receiver_same options ends later.sends later.latest later.former later.calls d their_past reading h.receiver;
           alone = λ tag. alone_later options ends later past (after_effects o.effects past) their_past their_past within (λ effect has. has) tag refl refl (h.alone tag);
         };
         answered = record {

@@ -18,13 +18,13 @@ use Rattle.dcsctp_theorem_association.proofs.Growth.{after_within}
 use Rattle.dcsctp_delivery_directions.specs.sending.Places.{table_with}
 use Rattle.dcsctp_delivery_directions.specs.sending.Log.{Message}
 use Rattle.dcsctp_delivery_directions.specs.sending.Queueing.{QueueWaits}
-use Rattle.dcsctp_delivery_directions.specs.directions.Directions.{MayReset, Direction, HasReached, Asking, DirectionRun, nothing_asked}
+use Rattle.dcsctp_delivery_directions.specs.directions.Directions.{MayReset, PreparedReset, Direction, HasReached, Asking, DirectionRun, nothing_asked}
 use Rattle.dcsctp_delivery_directions.proofs.directions.Directions.{direction_queues}
 use Rattle.dcsctp_delivery_directions.proofs.directions.RequestCounts.{requests_more, requests_more_to, requests_are_sent}
 use Rattle.dcsctp_delivery_sockets.specs.turns.Actions.{IsOpening, content_of_input, peer_tag, queued_after, resets_stream, BeginsAssociation, IsCall, Collides}
 use Rattle.dcsctp_delivery_sockets.specs.turns.Addressed.{AreAddressed}
 use Rattle.dcsctp_delivery_sockets.specs.turns.Asking.{own_with, own_of_core, own_of, AsksFit, AskingGrows}
-use Rattle.dcsctp_delivery_sockets.specs.turns.Runs.{TakesTurnsByOption, direction_with_sender, IsBetween, EndsPerformed, RefusesNone, SenderTurns, run_goes_on, run_ends, run_begins, run_outlasts, MayDrop, IsTrueAcknowledgement, Outlasts, IdleTurns, idle_stays, idle_begins, taken_turn}
+use Rattle.dcsctp_delivery_sockets.specs.turns.Runs.{accepted_resets, prepared_with, prepared_after, TakesTurnsByOption, direction_with_sender, IsBetween, EndsPerformed, RefusesNone, SenderTurns, run_goes_on, run_ends, run_begins, run_outlasts, MayDrop, IsTrueAcknowledgement, Outlasts, IdleTurns, idle_stays, idle_begins, taken_turn}
 use Rattle.dcsctp_delivery_sockets.proofs.turns.Completing.{completes_own}
 use Rattle.dcsctp_delivery_sockets.proofs.turns.ResetInputs.{named_by}
 use Rattle.dcsctp_delivery_sockets.proofs.turns.Rules.{turns_stay_by_option}
@@ -32,7 +32,7 @@ use Rattle.dcsctp_delivery_sockets.proofs.turns.Runs.{senders_go_on, receivers_b
 use Rattle.dcsctp_delivery_sockets.specs.turns.Unbegun.{UnbegunTurns, stays_unbegun, begins_first}
 use Rattle.dcsctp_delivery_sockets.proofs.turns.Unbegun.{stays_at_zero}
 use Rattle.dcsctp_spec_runs.specs.Past.{HasEffect}
-use Rattle.dcsctp_delivery_sockets.specs.associations.Ends.{SendingEnd, direction_of_ends, Ends, sender_key, TakesOver, IsUnbegun, NeverHeld, NewPeer, AreSeen, CameBack, Between, sending_side, receiving_side}
+use Rattle.dcsctp_delivery_sockets.specs.associations.Ends.{calls_after, SendingEnd, direction_of_ends, Ends, sender_key, TakesOver, IsUnbegun, NeverHeld, NewPeer, AreSeen, CameBack, Between, sending_side, receiving_side}
 use Rattle.dcsctp_delivery_sockets.specs.associations.Answered.{AnswersRequests, requests_of, waiting_deferral, AreAnswered}
 use Rattle.dcsctp_delivery_sockets.specs.associations.Laws.{CompletesPerformed, AsksLittle, AreEnds, ResetsAs}
 use Rattle.dcsctp_delivery_sockets.proofs.associations.Seen.{between_stays, grows_stays}
@@ -89,14 +89,14 @@ module _ (options : Options) (ends : Ends) (e : Endpoint) (queued : List Message
       omega (arith, sent, went, all, few)
 
   -- and so is what is begun in this turn.
-  few_then : AreAddressed (peer_tag e.core) (packets_of_events o.events) → (below : EndpointQueues) (acknowledged : ℕ) (asking : Asking)
+  few_then : AreAddressed (peer_tag e.core) (packets_of_events o.events) → (below : EndpointQueues) (acknowledged : ℕ) (asking : Asking) (prepared : List PreparedReset)
       → DirectionRun options (ends.firsts (sender_key e.core)) options.max_receiver_window_buffer_size
-      (direction_with_sender (direction_of_ends (ends.sends (sender_key e.core)) (ends.gets (sender_key e.core))) (queued_after e input (ends.sends (sender_key e.core)).queued) below acknowledged ((ends.sends (sender_key e.core)).sent ++ packets_of_events o.events) asking)
+      (record (direction_with_sender (direction_of_ends (ends.sends (sender_key e.core)) (ends.gets (sender_key e.core))) (queued_after e input (ends.sends (sender_key e.core)).queued) below acknowledged ((ends.sends (sender_key e.core)).sent ++ packets_of_events o.events) asking) { prepared = prepared })
       → length asking.requests < 2 ^ 32 - 1
-  few_then addressed below acknowledged asking run =
+  few_then addressed below acknowledged asking prepared run =
       let sent =
       requests_are_sent options (ends.firsts key) options.max_receiver_window_buffer_size
-      (direction_with_sender now (queued_after e input (ends.sends key).queued) below acknowledged ((ends.sends key).sent ++ packets_of_events o.events) asking) run in
+      (record (direction_with_sender now (queued_after e input (ends.sends key).queued) below acknowledged ((ends.sends key).sent ++ packets_of_events o.events) asking) { prepared = prepared }) run in
       let more = requests_more (ends.sends key).sent (packets_of_events o.events) in
       let went = h.sender.few_requests key in
       let goes = addressed_requests (ends.latest key) (packets_of_events o.events) (subst (λ (n : ℕ). AreAddressed n (packets_of_events o.events)) (sym h.sender.to_is) addressed) in
@@ -160,14 +160,18 @@ module _ (options : Options) (ends : Ends) (e : Endpoint) (queued : List Message
   performed_by None none may turn completes_so = idle_performed none may turn
   performed_by (Some link) linked may turn completes_so = performed link linked may turn completes_so
 
+  -- the calls by which its user has reset streams, with that of the turn
+  abbrev calls_now : List PreparedReset
+  calls_now = prepared_after e input (length (ends.sends (sender_key e.core)).queued) (ends.sends (sender_key e.core)).prepared
+
   -- the end of the sender after the turn, with this below
   abbrev grown_to : EndpointQueues → ℕ → Asking → SendingEnd
-  grown_to below acknowledged asking = grown_end ends (sender_key e.core) (peer_tag e.core) e.queues queued past packets h.sender o.effects (queued_after e input []) below acknowledged (packets_of_events o.events) asking
+  grown_to below acknowledged asking = grown_end ends (sender_key e.core) (peer_tag e.core) e.queues queued past packets h.sender o.effects (queued_after e input []) below acknowledged (packets_of_events o.events) asking calls_now (calls_after e input (length queued) ends.calls)
 
   goes_answered : (found : Option AssociationIdentity) → identity_of_core e.core ≡ found → IsCall input → Turn e input o → RefusesNone e o → CompletesPerformed their_past o → identity_of_core o.after.core ≡ identity_of_core e.core
       → AreAddressed (peer_tag e.core) (packets_of_events o.events) → o.after.queues.queue.is_interleaved ≡ e.queues.queue.is_interleaved → (acknowledged : ℕ) (between asking : Asking)
       → IsBetween o.effects (ends.sends (sender_key e.core)).asking between → AskingGrows between asking → AsksFit (ends.firsts (sender_key e.core)) (own_of o.after) asking → length asking.requests < 2 ^ 32 - 1
-      → AreAnswered (grown_ends ends (sender_key e.core) (peer_tag e.core) e.queues queued past packets h.sender o.effects (queued_after e input []) o.after.queues acknowledged (packets_of_events o.events) asking) o.after (after_effects o.effects past) d their_past
+      → AreAnswered (grown_ends ends (sender_key e.core) (peer_tag e.core) e.queues queued past packets h.sender o.effects (queued_after e input []) o.after.queues acknowledged (packets_of_events o.events) asking calls_now (calls_after e input (length queued) ends.calls)) o.after (after_effects o.effects past) d their_past
   goes_answered None none may turn refuses completes_so linked addressed kind' acknowledged between asking is grows fit little' =
       record {
         pairs = w.pairs;
@@ -185,6 +189,11 @@ module _ (options : Options) (ends : Ends) (e : Endpoint) (queued : List Message
         unlinked = w.unlinked;
       }
 
+  -- and where it ends in the turn
+  abbrev ended_to : EndpointQueues → ℕ → Asking → SendingEnd
+  ended_to below acknowledged asking =
+      grown_end ends (sender_key e.core) (peer_tag e.core) e.queues queued past packets h.sender o.effects (queued_after e input []) below acknowledged (packets_of_events o.events) asking (ends.sends (sender_key e.core)).prepared ends.calls
+
   -- the ends once the association has ended
   abbrev over : ((each : AssociationIdentity) → HasEffect (holds each) (after_effects o.effects past) → HasEffect (holds each) past) → (last : EndpointQueues) → ℕ → Asking → AreAddressed (peer_tag e.core) (packets_of_events o.events) → last.queue.is_interleaved ≡ e.queues.queue.is_interleaved → Ends
   over none_began last acknowledged asking addressed kind = ended_ends options ends e queued past packets d their_past reading h input o none_began last acknowledged asking addressed kind
@@ -197,16 +206,16 @@ module _ (options : Options) (ends : Ends) (e : Endpoint) (queued : List Message
       record {
         pairs = w.pairs;
         answers = subst (λ (l : Option AssociationIdentity). AnswersRequests (requests_of (over none_began last acknowledged asking addressed kind') w.pairs) l (after_effects o.effects past) (identity_of_core d.core) their_past (waiting_deferral d.queues.transfer)) (sym none)
-            (closes_answers ends e past d their_past w h.sender.queues_are o.after o.effects (grown_to last acknowledged asking) kind' None (after_effects o.effects past) _
-            (idle_answers ends e past d their_past w h.sender.queues_are o.after o.effects (grown_to last acknowledged asking) kind' there (after_effects o.effects past) (after_within o.effects past)));
+            (closes_answers ends e past d their_past w h.sender.queues_are o.after o.effects (ended_to last acknowledged asking) kind' None (after_effects o.effects past) _
+            (idle_answers ends e past d their_past w h.sender.queues_are o.after o.effects (ended_to last acknowledged asking) kind' there (after_effects o.effects past) (after_within o.effects past)));
         unlinked = w.unlinked;
       }
   ends_answered (Some link) there may turn completes_so none none_began addressed last kind' acknowledged asking grows fit little' =
       record {
         pairs = w.pairs;
         answers = subst (λ (l : Option AssociationIdentity). AnswersRequests (requests_of (over none_began last acknowledged asking addressed kind') w.pairs) l (after_effects o.effects past) (identity_of_core d.core) their_past (waiting_deferral d.queues.transfer)) (sym none)
-            (closes_answers ends e past d their_past w h.sender.queues_are o.after o.effects (grown_to last acknowledged asking) kind' (Some link) (after_effects o.effects past) _
-            (goes link there may turn completes_so o.after (grown_to last acknowledged asking) kind' (ends.sends link.my.tag).asking as_it_was_asked
+            (closes_answers ends e past d their_past w h.sender.queues_are o.after o.effects (ended_to last acknowledged asking) kind' (Some link) (after_effects o.effects past) _
+            (goes link there may turn completes_so o.after (ended_to last acknowledged asking) kind' (ends.sends link.my.tag).asking as_it_was_asked
             (begins_so link there may turn completes_so e.core e.outstanding (ends.sends link.my.tag).asking asking there (subst (λ (t : ℕ). AskingGrows (ends.sends t).asking asking) (link_tag e.core link there) grows) fit little')));
         unlinked = w.unlinked;
       }
@@ -362,32 +371,39 @@ module _ (options : Options) (ends : Ends) (e : Endpoint) (queued : List Message
           subst (λ (t : ℕ). ComesReported (HasReached (ends.gets t).first_tsn (ends.gets t).tracker) (content_of_input input)) (sym (link_tag e.core link linked))
           (came_back ends.gets their_past (packets_of_events seen) link.my.tag (content_of_input input) (h.sender.known link (h.mine link linked)).0 reported.heard (back link linked))
 
+  -- Where its user resets no streams in the turn, no call is made.
+  with_none : accepted_resets e input ≡ None → AreEnds ends.calls seen options (sending_side o.after (queued_after e input queued) (after_effects o.effects past) (packets ++ packets_of_events o.events)) (receiving_side d their_past reading)
+      → AreEnds (calls_after e input (length queued) ends.calls) seen options (sending_side o.after (queued_after e input queued) (after_effects o.effects past) (packets ++ packets_of_events o.events)) (receiving_side d their_past reading)
+  with_none none =
+      subst (λ (accepted : Option (List ℕ)). AreEnds (record ends.calls { made = prepared_with accepted (length queued) ends.calls.made }) seen options (sending_side o.after (queued_after e input queued) (after_effects o.effects past) (packets ++ packets_of_events o.events)) (receiving_side d their_past reading)) (sym none)
+
   by_turn : length (queued_after e input queued) < 2 ^ 64 → o.after.options.follow_rfc ≡ e.options.follow_rfc → ResetsAs ends.calls (length queued) e input → IsCall input → Turn e input o → RefusesNone e o → CompletesPerformed their_past o
       → SenderTurns options (ends.firsts (sender_key e.core)) options.max_receiver_window_buffer_size (direction_of_ends (ends.sends (sender_key e.core)) (ends.gets (sender_key e.core))) e input o
-      → AreEnds ends.calls seen options (sending_side o.after (queued_after e input queued) (after_effects o.effects past) (packets ++ packets_of_events o.events)) (receiving_side d their_past reading)
+      → AreEnds (calls_after e input (length queued) ends.calls) seen options (sending_side o.after (queued_after e input queued) (after_effects o.effects past) (packets ++ packets_of_events o.events)) (receiving_side d their_past reading)
   by_turn few follows resets may turn refuses completes_so (run_goes_on linked addressed kind' acknowledged between asking is grows fit run) =
       goes_on options ends e queued past packets d their_past reading h input o seen reported w (none_then may turn (h.mine, linked)) follows (rules_then follows may turn) (unbegun_after few resets may turn) linked kind' addressed acknowledged asking
       (λ begun has. grows_stays between asking grows begun (between_stays o.effects (ends.sends (sender_key e.core)).asking between is begun has)) fit
-      (goes_answered (identity_of_core e.core) refl may turn refuses completes_so linked addressed kind' acknowledged between asking is grows fit (few_then addressed o.after.queues acknowledged asking run)) run
+      (goes_answered (identity_of_core e.core) refl may turn refuses completes_so linked addressed kind' acknowledged between asking is grows fit (few_then addressed o.after.queues acknowledged asking calls_now run)) run
       (idle_then linked may turn)
-  by_turn few follows resets may turn refuses completes_so (run_ends none addressed last kind' acknowledged asking grows fit run is shown fit') =
+  by_turn few follows resets may turn refuses completes_so (run_ends unpaused none addressed last kind' acknowledged asking grows fit run is shown fit') =
       let none_began = none_ended may turn none in
-      ended options ends e queued past packets d their_past reading h input o seen reported w none_began follows (rules_then follows may turn) (unbegun_after few resets may turn) none addressed last kind' is shown fit' acknowledged asking
+      with_none unpaused
+      (ended options ends e queued past packets d their_past reading h input o seen reported w none_began follows (rules_then follows may turn) (unbegun_after few resets may turn) none addressed last kind' is shown fit' acknowledged asking
       (grows_stays (ends.sends (sender_key e.core)).asking asking grows)
-      (ends_answered (identity_of_core e.core) refl may turn completes_so none none_began addressed last kind' acknowledged asking grows fit (few_then addressed last acknowledged asking run)) run
-  by_turn few follows resets may turn refuses completes_so (run_begins begun opening linked addressed kind' same shown fit later) =
+      (ends_answered (identity_of_core e.core) refl may turn completes_so none none_began addressed last kind' acknowledged asking grows fit (few_then addressed last acknowledged asking (ends.sends (sender_key e.core)).prepared run)) run)
+  by_turn few follows resets may turn refuses completes_so (run_begins unpaused begun opening linked addressed kind' same shown fit later) =
       let none : queued_after e input [] ≡ [] = queues_none (queued_after e input []) (ends.sends (sender_key e.core)).queued (sym (input_adds e input (ends.sends (sender_key e.core)).queued) ∙ same) in
       let stays : queued_after e input queued ≡ queued = input_adds e input queued ∙ ap (λ (l : List Message). l ++ queued) none in
-      elim (new begun opening linked) [
+      with_none unpaused (elim (new begun opening linked) [
         | inl is ↦
             subst (λ (l : List Message). AreEnds ends.calls seen options (sending_side o.after l (after_effects o.effects past) (packets ++ packets_of_events o.events)) (receiving_side d their_past reading)) (sym stays)
             (begins options ends e queued past packets d their_past reading h input o w little begun (λ each has. holds_mean e input o each may turn has) follows (rules_then follows may turn) kind' seen reported is linked addressed shown fit later)
         | inr takes ↦ replaced follows may turn same begun opening linked takes
-      ]
-  by_turn few follows resets may turn refuses completes_so (run_outlasts collision same later) =
+      ])
+  by_turn few follows resets may turn refuses completes_so (run_outlasts unpaused collision same later) =
       elim (new (other_begun e input o collision) collision.opened.opening collision.opened.linked) [
         | inl is ↦ absurd (is.other collision.old (h.mine collision.old collision.was) (sym collision.tag))
-        | inr takes ↦ replaces follows may turn same collision takes later
+        | inr takes ↦ with_none unpaused (replaces follows may turn same collision takes later)
       ]
 
   -- The streams that its user resets may be reset.
@@ -416,7 +432,7 @@ module _ (options : Options) (ends : Ends) (e : Endpoint) (queued : List Message
       among_resets (id ∷ some) each = (each id (rw (eq-eqb id id refl) refl), among_resets some (λ other named. each other (rw named (or_true (id == other)))))
 
   pub sender_turns : ((link : AssociationIdentity) → identity_of_core e.core ≡ Some link → CameBack (packets_of_events seen) link.my.tag (content_of_input input)) → length (queued_after e input queued) < 2 ^ 64 → RefusesNone e o → ResetsAs ends.calls (length queued) e input → CompletesPerformed their_past o → o.after.options.follow_rfc ≡ e.options.follow_rfc → IsCall input → Turn e input o
-      → AreEnds ends.calls seen options (sending_side o.after (queued_after e input queued) (after_effects o.effects past) (packets ++ packets_of_events o.events)) (receiving_side d their_past reading)
+      → AreEnds (calls_after e input (length queued) ends.calls) seen options (sending_side o.after (queued_after e input queued) (after_effects o.effects past) (packets ++ packets_of_events o.events)) (receiving_side d their_past reading)
   sender_turns back few refuses resets completes_so follows may turn =
       by_turn few follows resets may turn refuses completes_so
       (senders_go_on options (ends.firsts key) options.max_receiver_window_buffer_size now e input o (h.runs key) (h.small key) h.sender.queues_are h.rules h.asks

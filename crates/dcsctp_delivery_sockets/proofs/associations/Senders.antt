@@ -17,14 +17,14 @@ use Rattle.dcsctp_delivery_directions.specs.sending.Marking.{all_marked, AreMark
 use Rattle.dcsctp_delivery_directions.proofs.sending.Places.{decide, set_same, set_other}
 use Rattle.dcsctp_delivery_directions.proofs.sending.MarkingAll.{all_are_marked, gone_are_marked}
 use Rattle.dcsctp_delivery_directions.proofs.directions.ChunkCounts.{chunks_more}
-use Rattle.dcsctp_delivery_directions.specs.directions.Directions.{Asking, Beginning, DirectionRun}
+use Rattle.dcsctp_delivery_directions.specs.directions.Directions.{Asking, PreparedReset, Beginning, DirectionRun}
 use Rattle.dcsctp_spec_lemmas.specs.types.declared.options.Options.{Options}
 use Rattle.dcsctp_delivery_sockets.specs.turns.Actions.{peer_tag}
 use Rattle.dcsctp_delivery_sockets.specs.turns.Addressed.{IsAddressed, AreAddressed}
 use Rattle.dcsctp_delivery_directions.specs.directions.Requests.{requests_among_packets, requests_to}
 use Rattle.dcsctp_delivery_directions.proofs.directions.RequestCounts.{requests_more, requests_more_to}
 use Rattle.dcsctp_delivery_sockets.proofs.associations.Counting.{addressed_requests}
-use Rattle.dcsctp_delivery_sockets.specs.associations.Ends.{SendingEnd, ReceivingEnd, Ends, MarksLeft, HadPeer, HadKind, HadBoth, IsBefore, PlaceWasTaken, Awaits, IsOfEnds, AreOfEnds, chunks_before, sender_key, direction_of_ends, unbegun_end, IsMet, MetOrAlone, Sender, WentBefore}
+use Rattle.dcsctp_delivery_sockets.specs.associations.Ends.{ResetCalls, SendingEnd, ReceivingEnd, Ends, MarksLeft, HadPeer, HadKind, HadBoth, IsBefore, PlaceWasTaken, Awaits, IsOfEnds, AreOfEnds, chunks_before, sender_key, direction_of_ends, unbegun_end, IsMet, MetOrAlone, Sender, WentBefore}
 use Rattle.dcsctp_delivery_sockets.proofs.associations.Counting.{more_to, addressed_counts}
 use Rattle.dcsctp_delivery_sockets.proofs.associations.Growing.{set_all, set_three, AllFound, found_later, found_then, found_grown, marked_grown, marked_still}
 
@@ -178,12 +178,12 @@ before_grows (Some tag) packets more = (let b = more_to tag packets more in omeg
 -- ---- the current end grows
 
 module _ (ends : Ends) (key to : ℕ) (below : EndpointQueues) (queued : List Message) (past : List Effect) (packets : List Emission) (h : Sender ends key to below queued past packets)
-    (effects : List Effect) (more : List Message) (after : EndpointQueues) (acknowledged : ℕ) (ps : List Emission) (asking : Asking) where
+    (effects : List Effect) (more : List Message) (after : EndpointQueues) (acknowledged : ℕ) (ps : List Emission) (asking : Asking) (prepared : List PreparedReset) (calls : ResetCalls) where
   abbrev pub grown_end : SendingEnd
-  grown_end = record { queued = more ++ (ends.sends key).queued; queues = after; acknowledged = acknowledged; sent = (ends.sends key).sent ++ ps; asking = asking; beginning = (ends.sends key).beginning }
+  grown_end = record { queued = more ++ (ends.sends key).queued; queues = after; acknowledged = acknowledged; sent = (ends.sends key).sent ++ ps; asking = asking; prepared = prepared; beginning = (ends.sends key).beginning }
 
   abbrev pub grown_ends : Ends
-  grown_ends = record ends { sends = table_with key grown_end ends.sends }
+  grown_ends = record ends { sends = table_with key grown_end ends.sends; calls = calls }
 
   grown_last : (tag : ℕ) → tag ≢ key → MarksLeft (ends.sends tag) (more ++ (ends.sends key).queued)
   grown_last tag ne place below gone =
@@ -286,7 +286,7 @@ module _ (ends : Ends) (key peer : ℕ) (below : EndpointQueues) (queued : List 
   marked_queue = all_marked (length (ends.sends key).queued) (ends.sends key).queues.queue.streams (ends.sends key).queued
 
   abbrev pub renewed_end : SendingEnd
-  renewed_end = record { queued = marked_queue; queues = after; acknowledged = acknowledged; sent = ps; asking = asking; beginning = beginning }
+  renewed_end = record { queued = marked_queue; queues = after; acknowledged = acknowledged; sent = ps; asking = asking; prepared = []; beginning = beginning }
 
   abbrev pub renewed_ends : Ends
   renewed_ends = record ends { sends = table_with to renewed_end ends.sends; gets = gets; firsts = firsts; latest = table_with to at ends.latest; former = table_with to before ends.former }

@@ -86,7 +86,7 @@ all_among past (first ∷ reads) r all (inr has) = all_among past reads r all.1 
 -- What was read under the own tag was read of this tag of the peer, or nothing was.
 pub data ReadUnder (past their_past : List Effect) (reading : Reading) (own : ℕ) : Type 0 where
   nothing_under : with_tag own reading.reads ≡ [] → ReadUnder past their_past reading own
-  under_key : (key : ℕ) → with_tag own reading.reads ≡ with_key key reading.reads → HadBoth past key own → (theirs : AssociationIdentity) → HasEffect (holds theirs) their_past → theirs.my.tag ≡ own → ReadUnder past their_past reading own
+  under_key : (key : ℕ) → with_tag own reading.reads ≡ with_key key reading.reads → HadBoth past key own → (theirs : AssociationIdentity) → HasEffect (holds theirs) their_past → theirs.peer.tag ≡ key → theirs.my.tag ≡ own → ReadUnder past their_past reading own
 
 module _ (options : Options) (ends : Ends) (e : Endpoint) (queued : List Message) (past : List Effect) (packets : List Emission) (other : Endpoint) (their_past : List Effect) (reading : Reading)
     (h : Between options ends (sending_side e queued past packets) (receiving_side other their_past reading)) (mine_differ : PeersDiffer past) (theirs_differ : PeersDiffer their_past) where
@@ -129,7 +129,7 @@ module _ (options : Options) (ends : Ends) (e : Endpoint) (queued : List Message
       by_first (found first has is) =
           let here = crossed first has in
           let both : HadBoth past first.tags.peer own = subst (HadBoth past first.tags.peer) is here.4 in
-          under_key first.tags.peer (same_reads reading.reads own first.tags.peer (λ r among. (to_peer r among both, to_own r among here))) both here.0 here.1 (here.3 ∙ is)
+          under_key first.tags.peer (same_reads reading.reads own first.tags.peer (λ r among. (to_peer r among both, to_own r among here))) both here.0 here.1 here.2 (here.3 ∙ is)
         where
           to_peer : (r : ReadMessage) → HasEntry r reading.reads → HadBoth past first.tags.peer own → r.tags.own ≡ own → r.tags.peer ≡ first.tags.peer
           to_peer r among both same =

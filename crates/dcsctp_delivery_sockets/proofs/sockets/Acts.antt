@@ -20,11 +20,13 @@ use Rattle.dcsctp_theorem_association.proofs.Growth.{after_effects-append}
 use Rattle.dcsctp_delivery_directions.specs.sending.Log.{Message}
 use Rattle.dcsctp_delivery_directions.specs.sending.Places as places
 use Rattle.dcsctp_delivery_directions.proofs.directions.RequestCounts.{requests_more_to}
+use Rattle.dcsctp_delivery_directions.specs.directions.Directions.{PreparedReset}
+use Rattle.dcsctp_delivery_sockets.specs.turns.Runs.{prepared_after}
 use Rattle.dcsctp_delivery_sockets.specs.turns.Actions.{content_of_input, queued_after, IsCall}
 use Rattle.dcsctp_delivery_sockets.specs.turns.Sides.{WasSent}
 use Rattle.dcsctp_delivery_sockets.specs.associations.Laws.{AsksLittle, ResetsAs, ResetsWereSeen, AreEnds}
 use Rattle.dcsctp_delivery_sockets.specs.associations.Reads.{Reading, reading_after}
-use Rattle.dcsctp_delivery_sockets.specs.sockets.Acts.{queued_through, AreTurns, AreNewPeers, HearsBack, ResetsThrough}
+use Rattle.dcsctp_delivery_sockets.specs.sockets.Acts.{made_through, queued_through, AreTurns, AreNewPeers, HearsBack, ResetsThrough}
 use Rattle.dcsctp_delivery_sockets.specs.sockets.Echoes.{GoesToMaker}
 use Rattle.dcsctp_delivery_sockets.specs.sockets.Packets.{reading_through, AreNewTags}
 use Rattle.dcsctp_delivery_sockets.proofs.associations.Growing.{input_adds}
@@ -33,7 +35,7 @@ use Rattle.dcsctp_delivery_sockets.proofs.associations.SenderTurns.{sender_turns
 use Rattle.dcsctp_delivery_sockets.proofs.associations.ReceiverTurns.{receiver_turns}
 use Rattle.dcsctp_delivery_sockets.proofs.sockets.Calls.{NoChunk, NoChunks}
 use Rattle.dcsctp_delivery_sockets.proofs.sockets.PacketTurns.{packets_apart, packet_goes}
-use Rattle.dcsctp_delivery_sockets.specs.associations.Ends.{ResetCalls, sending_side, receiving_side}
+use Rattle.dcsctp_delivery_sockets.specs.associations.Ends.{calls_after, ResetCalls, sending_side, receiving_side}
 
 -- ---- the sender
 
@@ -48,41 +50,45 @@ queued_grows e (t ∷ turns) queued =
 asks_little : (packets more : List Emission) → AsksLittle (packets ++ more) → AsksLittle packets
 asks_little packets more little tag = (let both = requests_more_to tag packets more in let few = little tag in omega (arith, both, few))
 
+-- It does not matter which calls were made so far.
+resets_with : (calls : ResetCalls) (made : List PreparedReset) (count : ℕ) (e : Endpoint) (input : Input) → ResetsAs calls count e input → ResetsAs (record calls { made = made }) count e input
+resets_with calls made count e input r = record { never = r.never; asks = r.asks; empty = r.empty }
+
 module _ (calls : ResetCalls) (seen : List (Event Emission)) (options : Options) (d : Endpoint) (their_past : List Effect) (reading : Reading) where
   -- the first of these turns
-  sender_first : (t : Transition) (turns : List Transition) (e : Endpoint) (queued : List Message) (past : List Effect) (packets : List Emission) → AreEnds calls seen options (sending_side e queued past packets) (receiving_side d their_past reading) → AreTurns e (t ∷ turns)
+  sender_first : (t : Transition) (turns : List Transition) (e : Endpoint) (queued : List Message) (past : List Effect) (packets : List Emission) (made : List PreparedReset) → AreEnds (record calls { made = made }) seen options (sending_side e queued past packets) (receiving_side d their_past reading) → AreTurns e (t ∷ turns)
       → ResetsThrough calls e queued (t ∷ turns) → AlongTurns (HearsBack (packets_of_events seen)) e (t ∷ turns) → AreNewPeers past their_past e (t ∷ turns) → length (queued_through e (t ∷ turns) queued) < 2 ^ 64
       → AsksLittle ((packets ++ packets_of_events t.outcome.events) ++ packets_of_events (events_of turns))
-      → AreEnds calls seen options (sending_side t.outcome.after (queued_after e t.input queued) (after_effects t.outcome.effects past) (packets ++ packets_of_events t.outcome.events)) (receiving_side d their_past reading)
-  sender_first t turns e queued past packets h taken resets back new few all =
+      → AreEnds (record calls { made = prepared_after e t.input (length queued) made }) seen options (sending_side t.outcome.after (queued_after e t.input queued) (after_effects t.outcome.effects past) (packets ++ packets_of_events t.outcome.events)) (receiving_side d their_past reading)
+  sender_first t turns e queued past packets made h taken resets back new few all =
       let grows = queued_grows t.outcome.after turns (queued_after e t.input queued) in
-      (subst (λ (n : ResetCalls). AreEnds n seen options (sending_side t.outcome.after (queued_after e t.input queued) (after_effects t.outcome.effects past) (packets ++ packets_of_events t.outcome.events)) (receiving_side d their_past reading)) h.is
+      (subst (λ (n : ResetCalls). AreEnds (calls_after e t.input (length queued) n) seen options (sending_side t.outcome.after (queued_after e t.input queued) (after_effects t.outcome.effects past) (packets ++ packets_of_events t.outcome.events)) (receiving_side d their_past reading)) h.is
       (sender_turns options h.ends e queued past packets d their_past reading h.between t.input t.outcome new.1 h.answered
-      (asks_little (packets ++ packets_of_events t.outcome.events) (packets_of_events (events_of turns)) all) seen h.reported back.0 (omega (arith, few, grows)) new.2 (subst (λ (n : ResetCalls). ResetsAs n (length queued) e t.input) (sym h.is) resets.0) new.3 new.4 new.0 taken.0))
+      (asks_little (packets ++ packets_of_events t.outcome.events) (packets_of_events (events_of turns)) all) seen h.reported back.0 (omega (arith, few, grows)) new.2 (subst (λ (n : ResetCalls). ResetsAs n (length queued) e t.input) (sym h.is) (resets_with calls made (length queued) e t.input resets.0)) new.3 new.4 new.0 taken.0))
 
-  pub senders_act : (turns : List Transition) (e : Endpoint) (queued : List Message) (past : List Effect) (packets : List Emission) → AreEnds calls seen options (sending_side e queued past packets) (receiving_side d their_past reading) → AreTurns e turns
+  pub senders_act : (turns : List Transition) (e : Endpoint) (queued : List Message) (past : List Effect) (packets : List Emission) (made : List PreparedReset) → AreEnds (record calls { made = made }) seen options (sending_side e queued past packets) (receiving_side d their_past reading) → AreTurns e turns
       → ResetsThrough calls e queued turns → AlongTurns (HearsBack (packets_of_events seen)) e turns → AreNewPeers past their_past e turns → length (queued_through e turns queued) < 2 ^ 64 → AsksLittle (packets ++ packets_of_events (events_of turns))
-      → AreEnds calls seen options (sending_side (after_all e turns) (queued_through e turns queued) (after_effects (effects_of turns) past) (packets ++ packets_of_events (events_of turns))) (receiving_side d their_past reading)
-  senders_act [] e queued past packets h taken resets back new few little = subst (λ (l : List Emission). AreEnds calls seen options (sending_side e queued past l) (receiving_side d their_past reading)) (sym (append-nil packets)) h
-  senders_act (t ∷ turns) e queued past packets h taken resets back new few little =
+      → AreEnds (record calls { made = made_through e turns queued made }) seen options (sending_side (after_all e turns) (queued_through e turns queued) (after_effects (effects_of turns) past) (packets ++ packets_of_events (events_of turns))) (receiving_side d their_past reading)
+  senders_act [] e queued past packets made h taken resets back new few little = subst (λ (l : List Emission). AreEnds (record calls { made = made }) seen options (sending_side e queued past l) (receiving_side d their_past reading)) (sym (append-nil packets)) h
+  senders_act (t ∷ turns) e queued past packets made h taken resets back new few little =
       let all : AsksLittle ((packets ++ packets_of_events t.outcome.events) ++ packets_of_events (events_of turns)) = subst AsksLittle (sym (packets_apart packets t turns)) little in
-      let first = sender_first t turns e queued past packets h taken resets back new few all in
-      let rest = senders_act turns t.outcome.after (queued_after e t.input queued) (after_effects t.outcome.effects past) (packets ++ packets_of_events t.outcome.events) first taken.1 resets.1 back.1 new.5 few all in
-      subst (λ (l : List Effect). AreEnds calls seen options (sending_side (after_all t.outcome.after turns) (queued_through t.outcome.after turns (queued_after e t.input queued)) l (packets ++ packets_of_events (t.outcome.events ++ events_of turns))) (receiving_side d their_past reading))
+      let first = sender_first t turns e queued past packets made h taken resets back new few all in
+      let rest = senders_act turns t.outcome.after (queued_after e t.input queued) (after_effects t.outcome.effects past) (packets ++ packets_of_events t.outcome.events) (prepared_after e t.input (length queued) made) first taken.1 resets.1 back.1 new.5 few all in
+      subst (λ (l : List Effect). AreEnds (record calls { made = made_through e (t ∷ turns) queued made }) seen options (sending_side (after_all t.outcome.after turns) (queued_through t.outcome.after turns (queued_after e t.input queued)) l (packets ++ packets_of_events (t.outcome.events ++ events_of turns))) (receiving_side d their_past reading))
       (sym (after_effects-append t.outcome.effects (effects_of turns) past))
-      (subst (λ (l : List Emission). AreEnds calls seen options (sending_side (after_all t.outcome.after turns) (queued_through t.outcome.after turns (queued_after e t.input queued)) (after_effects (effects_of turns) (after_effects t.outcome.effects past)) l) (receiving_side d their_past reading))
+      (subst (λ (l : List Emission). AreEnds (record calls { made = made_through e (t ∷ turns) queued made }) seen options (sending_side (after_all t.outcome.after turns) (queued_through t.outcome.after turns (queued_after e t.input queued)) (after_effects (effects_of turns) (after_effects t.outcome.effects past)) l) (receiving_side d their_past reading))
       (packets_apart packets t turns) rest)
 
   -- Of each reset that the sender's user is told is performed, the receiver's was told.
-  pub senders_reset : (turns : List Transition) (e : Endpoint) (queued : List Message) (past : List Effect) (packets : List Emission) → AreEnds calls seen options (sending_side e queued past packets) (receiving_side d their_past reading) → AreTurns e turns
+  pub senders_reset : (turns : List Transition) (e : Endpoint) (queued : List Message) (past : List Effect) (packets : List Emission) (made : List PreparedReset) → AreEnds (record calls { made = made }) seen options (sending_side e queued past packets) (receiving_side d their_past reading) → AreTurns e turns
       → ResetsThrough calls e queued turns → AlongTurns (HearsBack (packets_of_events seen)) e turns → AreNewPeers past their_past e turns → length (queued_through e turns queued) < 2 ^ 64 → AsksLittle (packets ++ packets_of_events (events_of turns))
       → AllByRecursion (λ turn. ResetsWereSeen seen turn.outcome) turns
-  senders_reset [] e queued past packets h taken resets back new few little = tt
-  senders_reset (t ∷ turns) e queued past packets h taken resets back new few little =
+  senders_reset [] e queued past packets made h taken resets back new few little = tt
+  senders_reset (t ∷ turns) e queued past packets made h taken resets back new few little =
       let all : AsksLittle ((packets ++ packets_of_events t.outcome.events) ++ packets_of_events (events_of turns)) = subst AsksLittle (sym (packets_apart packets t turns)) little in
-      let first = sender_first t turns e queued past packets h taken resets back new few all in (
+      let first = sender_first t turns e queued past packets made h taken resets back new few all in (
         resets_were_seen seen options h.ends e queued past packets d their_past reading t.input t.outcome h.between h.answered h.reported (asks_little packets (packets_of_events (events_of (t ∷ turns))) little) new.3 new.0 taken.0,
-        senders_reset turns t.outcome.after (queued_after e t.input queued) (after_effects t.outcome.effects past) (packets ++ packets_of_events t.outcome.events) first taken.1 resets.1 back.1 new.5 few all,
+        senders_reset turns t.outcome.after (queued_after e t.input queued) (after_effects t.outcome.effects past) (packets ++ packets_of_events t.outcome.events) (prepared_after e t.input (length queued) made) first taken.1 resets.1 back.1 new.5 few all,
       )
 
 -- ---- the receiver

@@ -205,7 +205,7 @@ acted law reset_calls options turns (outside_act outside) more are honest in_mem
 both_stand : Below → AnswerKeepsAgreement → (reset_calls : Both ResetCalls) (options : Both Options) (run : List PerformedAct) → AreUsable options → SocketRun options run → AreHonest (acts_of run) → AreFresh (turns_after run) → AreInMemory (acts_of run)
     → BothKnown reset_calls options (turns_after run)
     → BothStand reset_calls options (turns_after run)
-both_stand law answers reset_calls options [] are runs honest fresh in_memory known = record { to_b = ends_begin reset_calls.a options.a options.b; to_a = ends_begin reset_calls.b options.b options.a; a_stands = fresh_stands options.a; b_stands = fresh_stands options.b; a_resets = tt; b_resets = tt }
+both_stand law answers reset_calls options [] are runs honest fresh in_memory known = record { to_b = ends_begin (record reset_calls.a { made = [] }) options.a options.b refl; to_a = ends_begin (record reset_calls.b { made = [] }) options.b options.a refl; a_stands = fresh_stands options.a; b_stands = fresh_stands options.b; a_resets = tt; b_resets = tt }
 both_stand law answers reset_calls options (worked ∷ earlier) are runs honest fresh in_memory known =
     let before : BothKnown reset_calls options (turns_after earlier) = both_front reset_calls options (turns_after earlier) (side_of_act worked.act) worked.turns known in
     acted law reset_calls options (turns_after earlier) worked.act worked.turns are honest.0 (in_memory.0, tt) (joined law options earlier are runs.1 honest.1) known
@@ -280,7 +280,7 @@ none_of_all stream (turn ∷ turns) each = (not_this turn.input stream each.0, n
 
 -- the resets that a user asks for by these turns
 abbrev pub calls_of : Options → List Transition → ResetCalls
-calls_of options turns = record { never = resets_none turns; asks = asked_through (fresh_endpoint options) [] turns; empties = emptied_through (fresh_endpoint options) [] turns }
+calls_of options turns = record { never = resets_none turns; asks = asked_through (fresh_endpoint options) [] turns; empties = emptied_through (fresh_endpoint options) [] turns; made = [] }
 
 abbrev pub both_calls : Both Options → Both (List Transition) → Both ResetCalls
 both_calls options turns = record { a = calls_of options.a turns.a; b = calls_of options.b turns.b }
@@ -413,7 +413,7 @@ module _ (reset_calls : ResetCalls) (mine theirs : Options) (turns others : List
     where
       go : ReadUnder (recorded_past turns) (recorded_past others) (reading_of theirs others) tag → P (read_under tag theirs others)
       go (nothing_under none) = subst P (sym none) nothing
-      go (under_key key same both their_link held own) = subst P (sym same) (under key both their_link held own)
+      go (under_key key same both their_link held peer own) = subst P (sym same) (under key both their_link held own)
 
   one_in_order : (endpoint_after mine turns).options.follow_rfc ≡ mine.follow_rfc → (tag : ℕ) → AllowsOrder mine turns tag → IsDeliveredInOrder sent_all (read_under tag theirs others)
   one_in_order rules tag allows =
@@ -488,7 +488,7 @@ module _ (reset_calls : ResetCalls) (mine theirs : Options) (turns others : List
       sent_all sent_same asked rules tag starts interleaves
 
   one_in_epochs : ((stream count : ℕ) → reset_calls.asks stream count ≡ true → HasReset mine turns stream count) → ((stream count : ℕ) → ResetsWithNoneWaiting mine turns stream count → reset_calls.empties stream count ≡ true) → (tag : ℕ) → HasOneTag (recorded_past turns) → Interleaves (recorded_past turns) tag
-      → IsDeliveredInEpochs (HasReset mine turns) (ResetsWithNoneWaiting mine turns) (ReportsPeerReset theirs others tag) sent_all (read_under tag theirs others)
+      → IsDeliveredInEpochs (theirs.follow_rfc ≡ false) (HasReset mine turns) (ResetsWithNoneWaiting mine turns) (ReportsPeerReset theirs others tag) sent_all (read_under tag theirs others)
   one_in_epochs asked empties tag only interleaves =
       is_in_epochs reset_calls mine theirs turns others h (few_queued mine turns little) few_went (peers_differ mine (recorded_past others) (recorded_past turns) each) (peers_differ theirs (recorded_past turns) (recorded_past others) their_each)
       sent_all sent_same asked tag only interleaves empties (elim (leb_tells theirs.max_receiver_window_buffer_size (2 ^ 63)) [ inl e ↦ e.0 | inr e ↦ absurd (let beyond = e.1 in omega (arith, beyond, window)) ])

@@ -1,5 +1,5 @@
 -- Each reset that a user is told of splits what it reads, where the other user asked for it.
-use Rattle.std.proofs.Common.{◌≡◌, ℕ, zero, suc, Bool, true, false, ◌<◌, ◌≤◌, ◌+◌, ◌^◌, List, [], ◌∷◌, ◌++◌, length, refl, sym, ◌∙◌, ap, subst, inl, inr, take, nat_le, arith, ◌&&◌}
+use Rattle.std.proofs.Common.{◌≡◌, ◌⊎◌, ℕ, zero, suc, Bool, true, false, ◌<◌, ◌≤◌, ◌+◌, ◌^◌, List, [], ◌∷◌, ◌++◌, length, refl, sym, ◌∙◌, ap, subst, inl, inr, take, nat_le, arith, ◌&&◌}
 use Rattle.dcsctp_spec_lemmas.specs.types.declared.options.Options.{Options}
 use Rattle.dcsctp_spec_lemmas.specs.types.queues.Messages.{MessageContent}
 use Rattle.dcsctp_spec_lemmas.specs.spec.endpoint.CallTurns.{Transition}
@@ -13,16 +13,22 @@ use Rattle.dcsctp_delivery_directions.specs.sending.ChunkCounts.{chunks_to}
 use Rattle.dcsctp_delivery_directions.specs.order.Queue as directions
 use Rattle.dcsctp_delivery_directions.specs.order.Queue.{Separates, LeaveNoGapBefore}
 use Rattle.dcsctp_delivery_directions.specs.epochs.Asked.{AreCutAsAsked}
-use Rattle.dcsctp_delivery_sockets.specs.associations.Ends.{ResetCalls, HadBoth, chunks_before, NumbersFromZero}
-use Rattle.dcsctp_delivery_sockets.specs.associations.InOrder.{Interleaves, full_asks}
-use Rattle.dcsctp_delivery_sockets.specs.associations.Reads.{ReadMessage, ReportedReset, Reading, nothing_read, tagged_after, reached_index, with_tag, with_key}
+use Rattle.dcsctp_delivery_sockets.specs.associations.Ends.{WasTold, ResetCalls, HadBoth, chunks_before, NumbersFromZero}
+use Rattle.dcsctp_delivery_sockets.specs.associations.InOrder.{AreCutByUser, Interleaves, full_asks}
+use Rattle.dcsctp_delivery_sockets.specs.associations.Reads.{Tags, ReadMessage, ReportedReset, Reading, nothing_read, tagged_after, reached_index, with_tag, with_key}
 use Rattle.dcsctp_delivery_sockets.proofs.associations.InOrder.{ends_cut_as_asked, ends_cut_without_gaps}
-use Rattle.dcsctp_delivery_sockets.proofs.associations.Tagged.{PeersDiffer, ReadUnder, nothing_under, under_key, read_under_key, read_among, crossed_reset, one_key}
-use Rattle.dcsctp_delivery_sockets.specs.sockets.Epochs.{HasReset, ReportsPeerReset, ready_count, AreSplit, IsDeliveredByEpoch, HaveNoGapBefore, AreReadBefore, ResetsWithNoneWaiting, IsDeliveredInEpochs}
+use Rattle.dcsctp_delivery_sockets.proofs.associations.Tagged.{IsCrossedReset, PeersDiffer, ReadUnder, nothing_under, under_key, read_under_key, read_among, crossed_reset, one_key}
+use Rattle.dcsctp_delivery_sockets.specs.sockets.Epochs.{IsReadMessage, HasReset, ReportsPeerReset, ready_count, AreSplit, IsDeliveredByEpoch, HaveNoGapBefore, AreReadBefore, ResetsWithNoneWaiting, IsDeliveredInEpochs}
 use Rattle.dcsctp_delivery_sockets.specs.sockets.Ordered.{HasOneTag, StartsAtZero, read_under}
 use Rattle.dcsctp_delivery_sockets.specs.sockets.Packets.{reading_through}
-use Rattle.dcsctp_delivery_sockets.proofs.sockets.Stands.{Stand, queued_of, packets_of, reading_of, reading_more}
-use Rattle.dcsctp_delivery_sockets.proofs.sockets.ToldResets.{told_report, reads_more}
+use Rattle.dcsctp_delivery_sockets.proofs.sockets.Stands.{Stand, calls_by, queued_of, packets_of, reading_of, reading_more}
+use Rattle.dcsctp_delivery_directions.specs.epochs.Reports.{IsReadOn}
+use Rattle.dcsctp_delivery_directions.specs.directions.Directions.{PerformedReset}
+use Rattle.dcsctp_spec_lemmas.specs.spec.association.Effect.{AssociationIdentity, holds}
+use Rattle.dcsctp_spec_runs.specs.Past.{HasEffect}
+use Rattle.dcsctp_spec_lemmas.specs.spec.endpoint.Event.{incoming_stream_reset}
+use Rattle.dcsctp_delivery_sockets.proofs.sockets.MadeResets.{was_made}
+use Rattle.dcsctp_delivery_sockets.proofs.sockets.ToldResets.{told_report, reads_more, IsToldIn, told_in}
 use Rattle.dcsctp_delivery_sockets.proofs.sockets.UserMessages.{SaysSame, ordered_on, spared_on, message_on, is_in_order}
 
 -- What separates what was queued splits what was sent.
@@ -154,7 +160,7 @@ module _ (reset_calls : ResetCalls) (mine theirs : Options) (turns others : List
       where
         go : ReadUnder (recorded_past turns) (recorded_past others) (reading_of theirs others) tag → Delivered (read_under tag theirs others)
         go (nothing_under none) = subst Delivered (sym none) none_delivered
-        go (under_key key read both their_link held own) = subst Delivered (sym read) (key_delivered key both)
+        go (under_key key read both their_link held peer own) = subst Delivered (sym read) (key_delivered key both)
 
   -- ---- without gaps
 
@@ -162,11 +168,11 @@ module _ (reset_calls : ResetCalls) (mine theirs : Options) (turns others : List
       (tag : ℕ) (only : HasOneTag (recorded_past turns)) (interleaves : Interleaves (recorded_past turns) tag)
       (empties : (stream count : ℕ) → ResetsWithNoneWaiting mine turns stream count → reset_calls.empties stream count ≡ true) (window : nat_le theirs.max_receiver_window_buffer_size (2 ^ 63) ≡ true) where
     abbrev InEpochs : List MessageContent → Type 0
-    InEpochs read = IsDeliveredInEpochs (HasReset mine turns) (ResetsWithNoneWaiting mine turns) (ReportsPeerReset theirs others tag) sent read
+    InEpochs read = IsDeliveredInEpochs (theirs.follow_rfc ≡ false) (HasReset mine turns) (ResetsWithNoneWaiting mine turns) (ReportsPeerReset theirs others tag) sent read
 
-    whole_cuts : (key : ℕ) → HadBoth (recorded_past turns) key tag → AreCutAsAsked true (nat_le theirs.max_receiver_window_buffer_size (2 ^ 63)) reset_calls.asks (full_asks reset_calls.empties theirs.max_receiver_window_buffer_size) (h.ends.gets key).performed (queued_of mine turns) (with_key key (reading_of theirs others).reads)
+    whole_cuts : (key : ℕ) → HadBoth (recorded_past turns) key tag → AreCutByUser (calls_by reset_calls mine turns) theirs.max_receiver_window_buffer_size (h.ends.gets key).performed (queued_of mine turns) (with_key key (reading_of theirs others).reads)
     whole_cuts key both =
-        subst (λ (calls : ResetCalls). AreCutAsAsked true (nat_le theirs.max_receiver_window_buffer_size (2 ^ 63)) calls.asks (full_asks calls.empties theirs.max_receiver_window_buffer_size) (h.ends.gets key).performed (queued_of mine turns) (with_key key (reading_of theirs others).reads)) h.is
+        subst (λ (calls : ResetCalls). AreCutByUser calls theirs.max_receiver_window_buffer_size (h.ends.gets key).performed (queued_of mine turns) (with_key key (reading_of theirs others).reads)) h.is
         (ends_cut_without_gaps theirs h.ends (endpoint_after mine turns) (queued_of mine turns) (recorded_past turns) (packets_of turns) (endpoint_after theirs others) (recorded_past others) (reading_of theirs others) h.between
         few went key (λ link has. only link both.link has both.held ∙ both.tag_is) (both.link, both.held, both.tag_is, interleaves both.link both.held both.peer_is))
 
@@ -182,7 +188,7 @@ module _ (reset_calls : ResetCalls) (mine theirs : Options) (turns others : List
           delivered = record { places = []; were_sent = tt; once = tt; in_order = λ stream. tt };
           epochs = λ streams index told stream names. (
               let p = told_performed tag streams index told in
-              let d = whole_cuts p.key p.both in
+              let d = (whole_cuts p.key p.both).cut in
               let c = d.cut stream (record { streams = streams; index = index }) p.performed names in
               record {
                 split = record { count = c.place; ask = asked stream c.place c.asked; split = tt };
@@ -192,11 +198,57 @@ module _ (reset_calls : ResetCalls) (mine theirs : Options) (turns others : List
               }
               );
           no_gap = λ stream earlier later has. absurd has;
+          between = λ tells stream earlier later count ask empty one. absurd one.has;
         }
 
-    key_in_epochs : (key : ℕ) → HadBoth (recorded_past turns) key tag → InEpochs (with_key key (reading_of theirs others).reads)
-    key_in_epochs key both =
-        let d = whole_cuts key both in
+    read_of : (stream : ℕ) (places : List ℕ) (place : ℕ) → IsReadMessage sent stream places place → IsReadOn (queued_of mine turns) stream places place
+    read_of stream places place r = record { on = message_on (queued_of mine turns) sent same stream place r.on; has = r.has }
+
+    -- What was performed under the tag was reported, if the socket tells of each.
+    told_under : theirs.follow_rfc ≡ false → (key : ℕ) → HadBoth (recorded_past turns) key tag → (link : AssociationIdentity) → HasEffect (holds link) (recorded_past others) → link.peer.tag ≡ key → link.my.tag ≡ tag → (reset : PerformedReset) → HasEntry reset (h.ends.gets key).performed
+        → ReportsPeerReset theirs others tag reset.streams reset.index
+    told_under plainly key both link held peer own reset has = found (told_in (fresh_endpoint theirs) others nothing_read w.report w.has)
+      where
+        w : WasTold (reading_of theirs others).resets key reset
+        w = h.between.receiver.were_told plainly key reset has
+
+        c : IsCrossedReset theirs h.ends (endpoint_after mine turns) (queued_of mine turns) (recorded_past turns) (packets_of turns) (endpoint_after theirs others) (recorded_past others) (reading_of theirs others) h.between mine_differ theirs_differ w.report
+        c = crossed_reset theirs h.ends (endpoint_after mine turns) (queued_of mine turns) (recorded_past turns) (packets_of turns) (endpoint_after theirs others) (recorded_past others) (reading_of theirs others) h.between mine_differ theirs_differ w.report w.has
+
+        own_is : w.report.tags.own ≡ tag
+        own_is = sym c.own_is ∙ ap (λ (l : AssociationIdentity). l.my.tag) (theirs_differ c.link link c.held held (c.peer_is ∙ w.tag_is ∙ sym peer)) ∙ own
+
+        found : HasEntry w.report [] ⊎ IsToldIn (fresh_endpoint theirs) others nothing_read w.report → ReportsPeerReset theirs others tag reset.streams reset.index
+        found (inl none) = absurd none
+        found (inr k) =
+            let reading : Reading = reading_through (fresh_endpoint theirs) k.earlier nothing_read in
+            let last_own : reading.last.own ≡ tag = ap (λ (t : Tags). t.own) (sym k.new.tags_are) ∙ own_is in
+            let last_peer : reading.last.peer ≡ key = ap (λ (t : Tags). t.peer) (sym k.new.tags_are) ∙ w.tag_is in
+            let reads_then : List ReadMessage = tagged_after reading.last (endpoint_after theirs k.earlier) k.turn.input reading.reads in
+            let reads_are : (reading_through (fresh_endpoint theirs) (k.earlier ++ k.turn ∷ []) nothing_read).reads ≡ reads_then = ap (λ (x : Reading). x.reads) (reading_more (fresh_endpoint theirs) k.earlier (k.turn ∷ []) nothing_read) in
+            let within : (m : ReadMessage) → HasEntry m reads_then → HasEntry m (reading_of theirs others).reads =
+            λ m has'. subst (λ (ts : List Transition). HasEntry m (reading_through (fresh_endpoint theirs) ts nothing_read).reads) (sym k.is)
+            (subst (λ (x : Reading). HasEntry m x.reads) (sym (reading_more (fresh_endpoint theirs) k.earlier (k.turn ∷ k.later) nothing_read)) (reads_more m k.turn.outcome.after k.later _ has')) in
+            let same' : with_tag tag reads_then ≡ with_key key reads_then =
+            read_among theirs h.ends (endpoint_after mine turns) (queued_of mine turns) (recorded_past turns) (packets_of turns) (endpoint_after theirs others) (recorded_past others) (reading_of theirs others) h.between mine_differ theirs_differ
+            reads_then within key tag both link held peer own in
+            record {
+              earlier = k.earlier;
+              turn = k.turn;
+              later = k.later;
+              is = k.is;
+              told = subst (λ (r : PerformedReset). HasEntry (incoming_stream_reset r.streams) k.turn.outcome.events) w.reset_is k.new.told;
+              tag_is = last_own;
+              index_is = ap (λ (r : PerformedReset). r.index) (sym w.reset_is) ∙ k.new.index_is
+                  ∙ ap (λ (n : ℕ). length (with_key n reads_then) + ready_count k.turn.outcome.after) last_peer
+                  ∙ ap (λ (l : List MessageContent). length l + ready_count k.turn.outcome.after) (sym same')
+                  ∙ ap (λ (l : List ReadMessage). length (with_tag tag l) + ready_count k.turn.outcome.after) (sym reads_are);
+            }
+
+    key_in_epochs : (key : ℕ) → HadBoth (recorded_past turns) key tag → (link : AssociationIdentity) → HasEffect (holds link) (recorded_past others) → link.peer.tag ≡ key → link.my.tag ≡ tag → InEpochs (with_key key (reading_of theirs others).reads)
+    key_in_epochs key both link held peer own =
+        let u = whole_cuts key both in
+        let d = u.cut in
         record {
           delivered = is_in_order (queued_of mine turns) sent (with_key key (reading_of theirs others).reads) same d.ordered;
           epochs = λ streams index told stream names. (
@@ -213,6 +265,20 @@ module _ (reset_calls : ResetCalls) (mine theirs : Options) (turns others : List
               );
           no_gap = λ stream. no_gap_of (queued_of mine turns) sent same stream (length sent) d.ordered.delivered.places (reset_calls.asks stream) (HasReset mine turns stream) (asked stream)
               (subst (λ (n : ℕ). LeaveNoGapBefore true (reset_calls.asks stream) (queued_of mine turns) stream n d.ordered.delivered.places) same.size (known_gap stream (length (queued_of mine turns)) d.ordered.delivered.places (d.no_gap refl stream)));
+          between = λ plainly stream earlier later count ask empty one two low high. (
+              let b = u.between stream earlier later count (was_made mine turns stream count ask) (empties stream count empty) (read_of stream d.ordered.delivered.places earlier one) (read_of stream d.ordered.delivered.places later two) low high in
+              record {
+                streams = b.reset.streams;
+                index = b.reset.index;
+                report = told_under plainly key both link held peer own b.reset b.has;
+                names = b.names;
+                place = b.place;
+                ask = asked stream b.place b.asked;
+                from = b.from;
+                to = b.to;
+                split = split_of (queued_of mine turns) sent same stream b.reset.index b.place d.ordered.delivered.places b.separates;
+              }
+              );
         }
 
     pub is_in_epochs : InEpochs (read_under tag theirs others)
@@ -222,4 +288,4 @@ module _ (reset_calls : ResetCalls) (mine theirs : Options) (turns others : List
       where
         go : ReadUnder (recorded_past turns) (recorded_past others) (reading_of theirs others) tag → InEpochs (read_under tag theirs others)
         go (nothing_under none) = subst InEpochs (sym none) none_in_epochs
-        go (under_key key read both their_link held own) = subst InEpochs (sym read) (key_in_epochs key both)
+        go (under_key key read both their_link held peer own) = subst InEpochs (sym read) (key_in_epochs key both their_link held peer own)

@@ -20,10 +20,12 @@ use Rattle.dcsctp_theorem_sockets.specs.Agreement.{recorded_past}
 use Rattle.dcsctp_theorem_sockets.proofs.Bursts.{packets_of_events-append}
 use Rattle.dcsctp_delivery_directions.specs.sending.Log.{Message}
 use Rattle.dcsctp_delivery_directions.specs.sending.Places as places
+use Rattle.dcsctp_delivery_directions.specs.directions.Directions.{PreparedReset}
+use Rattle.dcsctp_delivery_sockets.specs.turns.Runs.{prepared_after}
 use Rattle.dcsctp_delivery_sockets.specs.turns.Actions.{queued_after}
 use Rattle.dcsctp_delivery_sockets.specs.associations.Laws.{AsksLittle, ResetsWereSeen, AreEnds}
 use Rattle.dcsctp_delivery_sockets.specs.associations.Reads.{Reading, nothing_read, reading_after}
-use Rattle.dcsctp_delivery_sockets.specs.sockets.Acts.{queued_through, AreNewPeers, HearsBack}
+use Rattle.dcsctp_delivery_sockets.specs.sockets.Acts.{made_through, queued_through, AreNewPeers, HearsBack}
 use Rattle.dcsctp_delivery_sockets.specs.sockets.Packets.{reading_through, AreNewTags}
 use Rattle.dcsctp_delivery_sockets.specs.sockets.UserMessages.{message_sent, messages_of_turns}
 use Rattle.dcsctp_delivery_sockets.specs.sockets.Delivery.{IsOfNewTagsBut, MatchOrUnmatched, SendsLittle}
@@ -47,14 +49,25 @@ packets_of turns = packets_of_events (events_of turns)
 abbrev pub reading_of : Options → List Transition → Reading
 reading_of options turns = reading_through (fresh_endpoint options) turns nothing_read
 
+-- the calls by which the user resets streams, with those that it has made by then
+abbrev pub made_of : Options → List Transition → List PreparedReset
+made_of options turns = made_through (fresh_endpoint options) turns [] []
+
+abbrev pub calls_by : ResetCalls → Options → List Transition → ResetCalls
+calls_by reset_calls options turns = record reset_calls { made = made_of options turns }
+
 -- the direction from the one to the other
 abbrev pub Stand : ResetCalls → Options → Options → List Transition → List Transition → Type 0
 Stand reset_calls mine theirs turns others =
-    AreEnds reset_calls (events_of others) theirs (sending_side (endpoint_after mine turns) (queued_of mine turns) (recorded_past turns) (packets_of turns)) (receiving_side (endpoint_after theirs others) (recorded_past others) (reading_of theirs others))
+    AreEnds (calls_by reset_calls mine turns) (events_of others) theirs (sending_side (endpoint_after mine turns) (queued_of mine turns) (recorded_past turns) (packets_of turns)) (receiving_side (endpoint_after theirs others) (recorded_past others) (reading_of theirs others))
 
 queued_more : (e : Endpoint) (turns more : List Transition) (queued : List Message) → queued_through e (turns ++ more) queued ≡ queued_through (after_all e turns) more (queued_through e turns queued)
 queued_more e [] more queued = refl
 queued_more e (t ∷ turns) more queued = queued_more t.outcome.after turns more (queued_after e t.input queued)
+
+made_more : (e : Endpoint) (turns more : List Transition) (queued : List Message) (made : List PreparedReset) → made_through e (turns ++ more) queued made ≡ made_through (after_all e turns) more (queued_through e turns queued) (made_through e turns queued made)
+made_more e [] more queued made = refl
+made_more e (t ∷ turns) more queued made = made_more t.outcome.after turns more (queued_after e t.input queued) (prepared_after e t.input (length queued) made)
 
 pub reading_more : (e : Endpoint) (turns more : List Transition) (reading : Reading) → reading_through e (turns ++ more) reading ≡ reading_through (after_all e turns) more (reading_through e turns reading)
 reading_more e [] more reading = refl
@@ -74,13 +87,14 @@ few_queued options turns little = (let same = queued_same options turns in let f
 -- ---- the sender acts
 
 module _ (reset_calls : ResetCalls) (seen : List (Event Emission)) (theirs : Options) (d : Endpoint) (their_past : List Effect) (reading : Reading) where
-  same_sender : (e e' : Endpoint) (queued queued' : List Message) (past past' : List Effect) (packets packets' : List Emission) → e ≡ e' → queued ≡ queued' → past ≡ past' → packets ≡ packets'
-      → AreEnds reset_calls seen theirs (sending_side e queued past packets) (receiving_side d their_past reading) → AreEnds reset_calls seen theirs (sending_side e' queued' past' packets') (receiving_side d their_past reading)
-  same_sender e e' queued queued' past past' packets packets' same_e same_queued same_past same_packets h =
-      subst (λ (x : Endpoint). AreEnds reset_calls seen theirs (sending_side x queued' past' packets') (receiving_side d their_past reading)) same_e
-      (subst (λ (x : List Message). AreEnds reset_calls seen theirs (sending_side e x past' packets') (receiving_side d their_past reading)) same_queued
-      (subst (λ (x : List Effect). AreEnds reset_calls seen theirs (sending_side e queued x packets') (receiving_side d their_past reading)) same_past
-      (subst (λ (x : List Emission). AreEnds reset_calls seen theirs (sending_side e queued past x) (receiving_side d their_past reading)) same_packets h)))
+  same_sender : (e e' : Endpoint) (queued queued' : List Message) (past past' : List Effect) (packets packets' : List Emission) (made made' : List PreparedReset) → made ≡ made' → e ≡ e' → queued ≡ queued' → past ≡ past' → packets ≡ packets'
+      → AreEnds (record reset_calls { made = made }) seen theirs (sending_side e queued past packets) (receiving_side d their_past reading) → AreEnds (record reset_calls { made = made' }) seen theirs (sending_side e' queued' past' packets') (receiving_side d their_past reading)
+  same_sender e e' queued queued' past past' packets packets' made made' same_made same_e same_queued same_past same_packets h =
+      subst (λ (x : List PreparedReset). AreEnds (record reset_calls { made = x }) seen theirs (sending_side e' queued' past' packets') (receiving_side d their_past reading)) same_made
+      (subst (λ (x : Endpoint). AreEnds (record reset_calls { made = made }) seen theirs (sending_side x queued' past' packets') (receiving_side d their_past reading)) same_e
+      (subst (λ (x : List Message). AreEnds (record reset_calls { made = made }) seen theirs (sending_side e x past' packets') (receiving_side d their_past reading)) same_queued
+      (subst (λ (x : List Effect). AreEnds (record reset_calls { made = made }) seen theirs (sending_side e queued x packets') (receiving_side d their_past reading)) same_past
+      (subst (λ (x : List Emission). AreEnds (record reset_calls { made = made }) seen theirs (sending_side e queued past x) (receiving_side d their_past reading)) same_packets h))))
 
 pub sender_more : (reset_calls : ResetCalls) (mine theirs : Options) (turns others more : List Transition) → Stand reset_calls mine theirs turns others → SideKnown reset_calls mine (recorded_past others) (turns ++ more)
     → MatchOrUnmatched mine theirs (recorded_past (turns ++ more)) (recorded_past others) → StandsSo (endpoint_after mine turns) (recorded_past turns) → AllPerformed (recorded_past (turns ++ more)) (recorded_past others)
@@ -99,11 +113,11 @@ sender_more reset_calls mine theirs turns others more h known matched stands per
     subst (λ (q : List Message). length q < 2 ^ 64) (queued_more (fresh_endpoint mine) turns more []) (few_queued mine (turns ++ more) known.little) in
     let asks : AsksLittle (packets_of turns ++ packets_of more) = subst AsksLittle (packets_more turns more) known.little.requests in (
       same_sender reset_calls (events_of others) theirs (endpoint_after theirs others) (recorded_past others) (reading_of theirs others) (after_all e more) (endpoint_after mine (turns ++ more)) (queued_through e more (queued_of mine turns)) (queued_of mine (turns ++ more))
-          (after_effects (effects_of more) past) (recorded_past (turns ++ more)) (packets_of turns ++ packets_of more) (packets_of (turns ++ more)) (sym (after_all-append (fresh_endpoint mine) turns more))
+          (after_effects (effects_of more) past) (recorded_past (turns ++ more)) (packets_of turns ++ packets_of more) (packets_of (turns ++ more)) (made_through e more (queued_of mine turns) (made_of mine turns)) (made_of mine (turns ++ more)) (sym (made_more (fresh_endpoint mine) turns more [] [])) (sym (after_all-append (fresh_endpoint mine) turns more))
           (sym (queued_more (fresh_endpoint mine) turns more [])) (sym (past_more turns more)) (sym (packets_more turns more))
-          (senders_act reset_calls (events_of others) theirs (endpoint_after theirs others) (recorded_past others) (reading_of theirs others) more e (queued_of mine turns) past (packets_of turns) h (rest_turns reset_calls mine turns more known) (rest_resets reset_calls mine turns more known) back new few
+          (senders_act reset_calls (events_of others) theirs (endpoint_after theirs others) (recorded_past others) (reading_of theirs others) more e (queued_of mine turns) past (packets_of turns) (made_of mine turns) h (rest_turns reset_calls mine turns more known) (rest_resets reset_calls mine turns more known) back new few
           asks),
-      senders_reset reset_calls (events_of others) theirs (endpoint_after theirs others) (recorded_past others) (reading_of theirs others) more e (queued_of mine turns) past (packets_of turns) h (rest_turns reset_calls mine turns more known) (rest_resets reset_calls mine turns more known) back new few
+      senders_reset reset_calls (events_of others) theirs (endpoint_after theirs others) (recorded_past others) (reading_of theirs others) more e (queued_of mine turns) past (packets_of turns) (made_of mine turns) h (rest_turns reset_calls mine turns more known) (rest_resets reset_calls mine turns more known) back new few
           asks,
     )
 
@@ -130,22 +144,22 @@ module _ (reset_calls their_reset_calls : ResetCalls) (mine theirs : Options) (t
       (subst (λ (p : List Effect). MatchOrUnmatched theirs mine p (recorded_past turns)) same matched)
       (subst (λ (p : List Effect). AllFound p (recorded_past turns)) same found) (subst NoneRestored same restored)
 
-  now_stands : AreEnds reset_calls (events_of others ++ events_of more) theirs (sending_side (endpoint_after mine turns) (queued_of mine turns) (recorded_past turns) (packets_of turns)) (receiving_side (after_all (endpoint_after theirs others) more) (after_effects (effects_of more) (recorded_past others))
+  now_stands : AreEnds (calls_by reset_calls mine turns) (events_of others ++ events_of more) theirs (sending_side (endpoint_after mine turns) (queued_of mine turns) (recorded_past turns) (packets_of turns)) (receiving_side (after_all (endpoint_after theirs others) more) (after_effects (effects_of more) (recorded_past others))
       (reading_through (endpoint_after theirs others) more (reading_of theirs others))) → Stand reset_calls mine theirs turns (others ++ more)
   now_stands after =
-      same_receiver reset_calls theirs (endpoint_after mine turns) (queued_of mine turns) (recorded_past turns) (packets_of turns) (events_of others ++ events_of more) (events_of (others ++ more)) (after_all (endpoint_after theirs others) more) (endpoint_after theirs (others ++ more))
+      same_receiver (calls_by reset_calls mine turns) theirs (endpoint_after mine turns) (queued_of mine turns) (recorded_past turns) (packets_of turns) (events_of others ++ events_of more) (events_of (others ++ more)) (after_all (endpoint_after theirs others) more) (endpoint_after theirs (others ++ more))
       (after_effects (effects_of more) (recorded_past others)) (recorded_past (others ++ more)) (reading_through (endpoint_after theirs others) more (reading_of theirs others)) (reading_of theirs (others ++ more))
       (sym (events_of-append others more)) (sym (after_all-append (fresh_endpoint theirs) others more)) (sym (past_more others more)) (sym (reading_more (fresh_endpoint theirs) others more nothing_read)) after
 
   pub receiver_calls : (call : CallContent) → UserTurns (endpoint_after theirs others) call more → AreCalls more → Stand reset_calls mine theirs turns (others ++ more)
   receiver_calls call taken calls =
       let none : NoChunks more = call_without (endpoint_after theirs others) call more taken in
-      now_stands (receivers_act reset_calls theirs (endpoint_after mine turns) (queued_of mine turns) (recorded_past turns) (packets_of turns) (few_queued mine turns little) little.requests more (events_of others) (endpoint_after theirs others) (recorded_past others)
+      now_stands (receivers_act (calls_by reset_calls mine turns) theirs (endpoint_after mine turns) (queued_of mine turns) (recorded_past turns) (packets_of turns) (few_queued mine turns little) little.requests more (events_of others) (endpoint_after theirs others) (recorded_past others)
       (reading_of theirs others) h none (rest_turns their_reset_calls theirs others more known) calls (their_tags calls (none_open more none)))
 
   pub receiver_handles : (bytes : List ℕ) (emission : Emission) → places.HasEntry emission (packets_of turns) → GoodPacket emission
       → ((packet : PacketContent) → IsPacket (wire_options (endpoint_after theirs others).options) packet bytes → packet_of_content packet ≡ emission.packet) → HandleInput (endpoint_after theirs others) bytes more → AreCalls more → AllOpenFitting more
       → Stand reset_calls mine theirs turns (others ++ more)
   receiver_handles bytes emission has good is taken calls opens =
-      now_stands (receivers_handle reset_calls theirs (endpoint_after mine turns) (queued_of mine turns) (recorded_past turns) (packets_of turns) (few_queued mine turns little) little.requests (events_of others) (endpoint_after theirs others) (recorded_past others)
+      now_stands (receivers_handle (calls_by reset_calls mine turns) theirs (endpoint_after mine turns) (queued_of mine turns) (recorded_past turns) (packets_of turns) (few_queued mine turns little) little.requests (events_of others) (endpoint_after theirs others) (recorded_past others)
       (reading_of theirs others) emission bytes more h has good.goes is (their_tags calls opens) taken)

@@ -1,5 +1,5 @@
 -- What a user is told of resets, and what it has read, turn by turn.
-use Rattle.std.proofs.Common.{◌≡◌, ℕ, List, [], ◌∷◌, ◌++◌, ap, sym, subst, inl, inr}
+use Rattle.std.proofs.Common.{◌≡◌, ◌⊎◌, ℕ, refl, List, [], ◌∷◌, ◌++◌, ap, sym, subst, inl, inr}
 use Rattle.dcsctp_spec_lemmas.specs.spec.Packet.{Emission}
 use Rattle.dcsctp_spec_lemmas.specs.spec.endpoint.CallTurns.{Transition, after_all}
 use Rattle.dcsctp_spec_lemmas.specs.spec.endpoint.DataOutcomes.{ready_or_left}
@@ -11,6 +11,7 @@ use Rattle.dcsctp_delivery_directions.specs.sending.Places.{HasEntry}
 use Rattle.dcsctp_delivery_sockets.proofs.turns.Telling.{entry_front}
 use Rattle.dcsctp_delivery_sockets.specs.associations.Reads.{Tags, ReadMessage, ReportedReset, Reading, and_first, tagged_after, reported_with, reached_index, reading_after}
 use Rattle.dcsctp_delivery_sockets.proofs.associations.WhatIsRead.{MayRead, reads_first, reads_none, may_read}
+use Rattle.dcsctp_delivery_sockets.proofs.associations.WhatIsReset.{IsNewReport, among_reported}
 use Rattle.dcsctp_delivery_sockets.specs.sockets.Packets.{reading_through}
 
 -- ---- reports
@@ -64,3 +65,24 @@ tagged_more tags e input read reads has = go input (may_read input)
 pub reads_more : (read : ReadMessage) (e : Endpoint) (turns : List Transition) (reading : Reading) → HasEntry read reading.reads → HasEntry read (reading_through e turns reading).reads
 reads_more read e [] reading has = has
 reads_more read e (t ∷ turns) reading has = reads_more read t.outcome.after turns (reading_after e t.input t.outcome reading) (tagged_more reading.last e t.input read reading.reads has)
+
+-- ---- the turn of a report
+
+-- One of these turns reports it.
+pub record IsToldIn (e : Endpoint) (turns : List Transition) (reading : Reading) (report : ReportedReset) : Type 0 where
+  pub earlier : List Transition
+  pub turn : Transition
+  pub later : List Transition
+  pub is : turns ≡ earlier ++ turn ∷ later
+  pub new : IsNewReport (reading_through e earlier reading).last (reached_index (after_all e earlier) turn.input turn.outcome (reading_through e earlier reading)) turn.outcome.events report
+
+pub told_in : (e : Endpoint) (turns : List Transition) (reading : Reading) (report : ReportedReset) → HasEntry report (reading_through e turns reading).resets → HasEntry report reading.resets ⊎ IsToldIn e turns reading report
+told_in e [] reading report has = inl has
+told_in e (t ∷ turns) reading report has =
+    elim (told_in t.outcome.after turns (reading_after e t.input t.outcome reading) report has) [
+      | inl before ↦ elim (among_reported reading.last (reached_index e t.input t.outcome reading) reading.resets report t.outcome.events before) [
+        | inl new ↦ inr (record { earlier = []; turn = t; later = turns; is = refl; new = new })
+        | inr old ↦ inl old
+      ]
+      | inr k ↦ inr (record { earlier = t ∷ k.earlier; turn = k.turn; later = k.later; is = ap (λ (l : List Transition). t ∷ l) k.is; new = k.new })
+    ]

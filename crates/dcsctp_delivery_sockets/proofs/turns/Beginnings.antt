@@ -83,7 +83,7 @@ pub anew_runs : (options : Options) (first size : ℕ) (queued : List Message) (
     → BeginsAs beginning queued below.queue → DirectionRun options first size (new_direction options first size queued below 0 [] beginning)
 anew_runs options first size queued below beginning fit queues none begun =
     directions.begins (new_direction options first size queued below 0 [] beginning)
-    (record { fit = fit; queues = queues; flight = none; acknowledged = refl; sent = refl; first_is = refl; tracker = refl; reassembly = refl; read = refl; performed = refl; asking = refl; begun = begun })
+    (record { fit = fit; queues = queues; flight = none; acknowledged = refl; sent = refl; first_is = refl; tracker = refl; reassembly = refl; read = refl; performed = refl; asking = refl; prepared = refl; begun = begun })
 
 -- Nothing waits in a socket that was just made.
 pub fresh_waits : (mine : Options) → QueueWaits [] (empty_queue mine)

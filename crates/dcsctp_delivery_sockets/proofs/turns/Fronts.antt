@@ -173,7 +173,7 @@ resetting is_known direction transfer is_reset performed =
 -- What was performed: nothing new, or the request that is handled.
 pub data RecordsFront (came : Option Content) (happened : List Effect) (direction : Direction) (left : Transfer) : List PerformedReset → Type 0 where
   front_none_new : has_reset happened ≡ false → RecordsFront came happened direction left direction.performed
-  front_one_new : (parameters : List ResetParameter) (reset : RequestedReset) → came ≡ Some (re_config parameters) → first_reset_request parameters ≡ Some reset
+  front_one_new : has_reset happened ≡ true → (parameters : List ResetParameter) (reset : RequestedReset) → came ≡ Some (re_config parameters) → first_reset_request parameters ≡ Some reset
       → RecordsFront came happened direction left (reset_performed reset.streams direction.read left.reassembly ∷ direction.performed)
 
 pub record ReceivingFront (is_known : Bool) (came : Option Content) (direction : Direction) (transfer : Transfer) (happened : List Effect) (new : Inside) : Type 0 where
@@ -253,7 +253,7 @@ peer_resets_receive is_known came happened direction transfer old new newest ask
       none = λ no. absurd (cc);
       some = λ is. some;
       performed = reset_performed reset.streams direction.read reassembly ∷ direction.performed;
-      records = front_one_new parameters reset came_is wants;
+      records = front_one_new some parameters reset came_is wants;
       steps = subst (λ (t : Transfer). DirectionSteps (receiving direction t direction.read)
           (resetting is_known direction (record found { reassembly = reassembly }) true (reset_performed reset.streams direction.read reassembly ∷ direction.performed))) (sym same)
           (performs_by is_known came happened direction found parameters reset reassembly (subst (λ (t : Transfer). KnowsRequest is_known direction t came happened) same newest) some came_is wants (asked parameters reset came_is wants) reached leaves);

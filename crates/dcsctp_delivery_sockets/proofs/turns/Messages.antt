@@ -14,10 +14,10 @@ use Rattle.dcsctp_spec_lemmas.specs.spec.queues.Transfer.{Transfer}
 use Rattle.dcsctp_spec_lemmas.specs.spec.endpoint.DataOutcomes.{opens_window, hastened_where_open, with_messages, TakesFirstReady, TakeLeft, TakeTurn}
 use Rattle.dcsctp_spec_lemmas.specs.spec.endpoint.FlushOutcomes.{Answer}
 use Rattle.dcsctp_spec_lemmas.specs.spec.endpoint.MessageOutcomes.{MessageRefusal, empty_payload, sending_refusal, Sending, lifecycle_name, queue_unless_refused, queue_one, queue_all, takes_any, SendAnswers, flush_if_queued, SendTurn}
-use Rattle.dcsctp_spec_lemmas.specs.spec.endpoint.PreparedResets.{ResetRefusal, reset_refusal, endpoint_with_queue, PreparesUnlessRefused, OwnResetsTurn}
+use Rattle.dcsctp_spec_lemmas.specs.spec.endpoint.PreparedResets.{PreparesResets, ResetRefusal, reset_refusal, endpoint_with_queue, PreparesUnlessRefused, OwnResetsTurn}
 use Rattle.dcsctp_theorem_sockets.proofs.Bursts.{packets_of_events-append}
 use Rattle.dcsctp_delivery_directions.specs.sending.Log.{Fits, Message}
-use Rattle.dcsctp_delivery_sockets.specs.turns.Actions.{IsCalm, Ledger, Inside, inside, ledger_of, queues_with_transfer, Actions, nothing, further, LeadsToLedger, MakesPackets, MakesAlso, Becomes, goes_on, pauses, queued_unless_refused, queued_together, with_first, read_if_connected, exchange_of}
+use Rattle.dcsctp_delivery_sockets.specs.turns.Actions.{IsCalm, Ledger, Inside, inside, prepared_inside, ledger_of, queues_with_transfer, Actions, nothing, further, LeadsToLedger, MakesPackets, MakesAlso, Becomes, goes_on, pauses, queued_unless_refused, queued_together, with_first, read_if_connected, exchange_of}
 use Rattle.dcsctp_spec_lemmas.specs.spec.association.Effect.{identity_of_core}
 use Rattle.dcsctp_delivery_sockets.specs.turns.Tags.{IsPeerTag}
 use Rattle.dcsctp_delivery_sockets.specs.turns.Asking.{Own, AsksFit}
@@ -30,13 +30,20 @@ use Rattle.dcsctp_delivery_sockets.proofs.turns.Data.{to_link, turn_link, flush_
 module _ (came : Option Content) (calm : IsCalm came) (to : ℕ) where
   -- ---- our streams that the user resets
 
+  -- Those that it resets are prepared first.
+  pub resets_prepare : (e : Endpoint) (ids : List ℕ) (o : Outcome) → IsPeerTag e.core to → PreparesResets e ids o
+      → (identity_of_core o.after.core ≡ identity_of_core e.core) × MakesAlso came to (λ queued. queued) (λ read. read) (prepared_inside ids (inside e)) (packets_of_events o.events) (inside o.after)
+  resets_prepare e ids o at turn =
+      let base : Endpoint = endpoint_with_queue e (prepared_all ids e.queues.queue) in
+      subst (λ (x : Outcome). (identity_of_core x.after.core ≡ identity_of_core e.core) × MakesAlso came to (λ queued. queued) (λ read. read) (prepared_inside ids (inside e)) (packets_of_events x.events) (inside x.after)) (sym turn.is) (
+        turn_link base turn.flushed turn.flushes,
+        makes_behind came to (inside base) [] (prepare_all_events ids e.queues.queue) turn.flushed (prepared_none ids e.queues.queue) (flush_makes came calm to base turn.flushed at turn.flushes),
+      )
+
   resets_where_goes : (refusal : Option ResetRefusal) (e : Endpoint) (ids : List ℕ) (o : Outcome) → reset_refusal e ≡ refusal → AllByRecursion (λ id. id < 2 ^ 16) ids → IsPeerTag e.core to → PreparesUnlessRefused refusal e ids o
       → Becomes (Some ids) came to (λ queued. queued) (λ read. read) e o
   resets_where_goes None e ids o is small at turn =
-      let base : Endpoint = endpoint_with_queue e (prepared_all ids e.queues.queue) in
-      subst (Becomes (Some ids) came to (λ queued. queued) (λ read. read) e) (sym turn.is)
-      (pauses ids refl calm is (turn_link base turn.flushed turn.flushes) small
-      (makes_behind came to (inside base) [] (prepare_all_events ids e.queues.queue) turn.flushed (prepared_none ids e.queues.queue) (flush_makes came calm to base turn.flushed at turn.flushes)))
+      let made = resets_prepare e ids o at turn in pauses ids refl calm is made.0 small made.1
   resets_where_goes (Some refusal) e ids o is small at turn = subst (Becomes (Some ids) came to (λ queued. queued) (λ read. read) e) (sym turn) (goes_on calm refl (rests came to (inside e)))
 
   pub own_resets_go : (e : Endpoint) (ids : List ℕ) (o : Outcome) → AllByRecursion (λ id. id < 2 ^ 16) ids → IsPeerTag e.core to → OwnResetsTurn e ids o → Becomes (Some ids) came to (λ queued. queued) (λ read. read) e o

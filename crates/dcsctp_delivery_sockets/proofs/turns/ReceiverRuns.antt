@@ -134,9 +134,9 @@ module _ (is_known : Bool) (options : Options) (first size : ℕ) (direction : D
           → RecordsFront (content_of_input input) o.effects direction between performed ⊎ (IsCalm (content_of_input input) × (performed ≡ direction.performed))
           → RecordsByTurn input o (reached_count (read_after e input direction.read) left) direction.performed performed
       recorded between left _ there is actions (inl (front_none_new none')) = records_none (inl none')
-      recorded between left _ there is actions (inl (front_one_new parameters reset came wants)) =
+      recorded between left _ there is actions (inl (front_one_new some' parameters reset came wants)) =
           subst (λ (n : ℕ). RecordsByTurn input o (reached_count (read_after e input direction.read) left) direction.performed (record { streams = reset.streams; index = n } ∷ direction.performed))
-          (counts_same (content_of_input input) (peer_tag e.core) parameters came _ _ between left there is actions) (records_one parameters reset came wants)
+          (counts_same (content_of_input input) (peer_tag e.core) parameters came _ _ between left there is actions) (records_one some' parameters reset came wants)
       recorded between left performed there is actions (inr (calm, same)) = subst (RecordsByTurn input o (reached_count (read_after e input direction.read) left) direction.performed) (sym same) (records_none (inr calm))
 
   pub receiver_becomes : Becomes (streams_user_resets input) (content_of_input input) (peer_tag e.core) (queued_after e input) (read_after e input) e o → ReceiverTurns is_known options first size direction transfer (taken_turn e input o)

@@ -1,11 +1,11 @@
 -- The laws of turns, as what they do to runs of two directions.
 use Rattle.dcsctp_delivery_directions.specs.directions.Directions as directions
-use Rattle.std.proofs.Common.{true, false, None, [], sym, subst}
+use Rattle.std.proofs.Common.{◌≡◌, ℕ, Option, true, false, None, Some, List, [], refl, sym, subst}
 use Rattle.dcsctp_spec_lemmas.specs.spec.queues.SendQueue.{empty_queue}
-use Rattle.dcsctp_delivery_sockets.specs.turns.Runs.{SendersGoOn, SendersBegin, SendersBeginAgain, ReceiversGoOn, ReceiversBegin}
-use Rattle.dcsctp_delivery_sockets.proofs.turns.Turns.{turns_are_actions}
+use Rattle.dcsctp_delivery_sockets.specs.turns.Runs.{accepted_resets, SenderTurns, SendersGoOn, SendersBegin, SendersBeginAgain, ReceiversGoOn, ReceiversBegin}
+use Rattle.dcsctp_delivery_sockets.proofs.turns.Turns.{turns_are_actions, accepted_prepares}
 use Rattle.dcsctp_delivery_sockets.proofs.turns.Beginnings.{fresh_waits, anew_runs, fresh_at_zero}
-use Rattle.dcsctp_delivery_sockets.proofs.turns.SenderRuns.{sender_becomes}
+use Rattle.dcsctp_delivery_sockets.proofs.turns.SenderRuns.{sender_becomes, sender_prepares}
 use Rattle.dcsctp_delivery_sockets.proofs.turns.ReceiverRuns.{idle_becomes, receiver_becomes}
 
 pub senders_begin : SendersBegin
@@ -19,7 +19,11 @@ begins_anew options first size asks empties queued below fit queues none =
 
 pub senders_go_on : SendersGoOn
 senders_go_on options first size direction e input o run small same rules fits performed refuses drops opens told few may turn =
-    sender_becomes options first size direction e input o run small same rules fits performed refuses drops opens told few (turns_are_actions e input o may turn)
+    go (accepted_resets e input) refl
+  where
+    go : (accepted : Option (List ℕ)) → accepted_resets e input ≡ accepted → SenderTurns options first size direction e input o
+    go None is = sender_becomes options first size direction e input o run small same rules fits performed refuses drops opens told few is (turns_are_actions e input o may turn)
+    go (Some ids) is = sender_prepares options first size direction e input o run small same rules fits performed refuses drops opens told few ids is (accepted_prepares e input o ids may turn is)
 
 pub receivers_go_on : ReceiversGoOn
 receivers_go_on is_known options first size direction transfer e input o run known was newest fits small may turn =

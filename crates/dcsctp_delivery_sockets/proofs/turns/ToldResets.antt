@@ -54,7 +54,7 @@ still_renewable e o old (inr none) is = absurd (cc)
 
 told_nothing : (e : Endpoint) (input : Input) (o : Outcome) → NoneAsked o.effects → StaysOrNone e.renewable o.after.renewable → ReportsResets e input o
 told_nothing e input o none stays =
-    record { performed = λ peer number has. absurd (none_performed o.effects peer number none has); renewable = λ old is. still_renewable e o old stays is }
+    record { performed = λ peer number has. absurd (none_performed o.effects peer number none has); each_told = λ plainly peer number has. absurd (none_performed o.effects peer number none has); renewable = λ old is. still_renewable e o old stays is }
 
 calm_tells : (e : Endpoint) (input : Input) (o : Outcome) → CalmTurns (content_of_input input) e o → ReportsResets e input o
 calm_tells e input o (goes_on asks) = told_nothing e input o asks.none asks.renews
@@ -95,6 +95,10 @@ state_where false is_same is = absurd (cc)
 module _ (e : Endpoint) (my : Pair) (held : Held) (number : ℕ) (reset : RequestedReset) (o : Outcome) where
   abbrev the_request : List ResetParameter
   the_request = outgoing_reset_request number (number_answered number reset.is_new) reset ∷ []
+
+  -- That needs the option.
+  follows_then : request_state e held the_request ≡ renewed → e.options.follow_rfc ≡ true
+  follows_then is = first_is e.options.follow_rfc _ (state_where (is_request_reached e.queues.transfer (Some reset)) (e.options.follow_rfc && is_renewal e.renewable held.peer_last (Some number) (Some reset)) is)
 
   came_again : request_state e held the_request ≡ renewed → IsReportedReset e o reset.streams
   came_again is =
@@ -159,6 +163,25 @@ module _ (e : Endpoint) (my : Pair) (held : Held) (number : ℕ) (reset : Reques
           | inr behind ↦ absurd (begun_none works.begun peer its (inr behind))
         ]
 
+    worked_plain : e.options.follow_rfc ≡ false → (peer : Pair) (its : ℕ) → WasPerformed peer its worked.effects → HasEntry (incoming_stream_reset reset.streams) o.events
+    worked_plain plainly peer its (inl has) = event_told (their_told reset.streams (own_streams e.outstanding) peer its worked.effects has)
+    worked_plain plainly peer its (inr has) =
+        absurd (let clash : true ≡ false = sym (follows_then (renews_where peer its (request_place held.peer_last number) (request_state e held the_request) has)) ∙ plainly in cc)
+
+    performed_plain : e.options.follow_rfc ≡ false → (peer : Pair) (its : ℕ) → WasPerformed peer its o.effects → HasEntry (incoming_stream_reset reset.streams) o.events
+    performed_plain plainly peer its (inl has) =
+        let works = works_of e my held the_request o turn in
+        elim (entry_either (effects.performs peer its) worked.effects (begun_effects works.begun) (subst (HasEffect (effects.performs peer its)) works.is has)) [
+          | inl front ↦ worked_plain plainly peer its (inl front)
+          | inr behind ↦ absurd (begun_none works.begun peer its (inl behind))
+        ]
+    performed_plain plainly peer its (inr has) =
+        let works = works_of e my held the_request o turn in
+        elim (entry_either (effects.renews peer its) worked.effects (begun_effects works.begun) (subst (HasEffect (effects.renews peer its)) works.is has)) [
+          | inl front ↦ worked_plain plainly peer its (inr front)
+          | inr behind ↦ absurd (begun_none works.begun peer its (inr behind))
+        ]
+
     -- Where streams were reset, a request was performed.
     some_performed : (happened : List Effect) → has_reset happened ≡ true → (peer : Pair) × (its : ℕ) × WasPerformed peer its happened
     some_performed [] is = absurd (cc)
@@ -183,6 +206,7 @@ module _ (e : Endpoint) (my : Pair) (held : Held) (number : ℕ) (reset : Reques
     request_tells input came =
         record {
           performed = λ peer its has others other came' asked. subst (λ (r : RequestedReset). IsReportedReset e o r.streams) (same_request others other (same_parameters others (sym came ∙ came')) asked) (performed_told peer its has);
+          each_told = λ plainly peer its has others other came' asked. subst (λ (r : RequestedReset). HasEntry (incoming_stream_reset r.streams) o.events) (same_request others other (same_parameters others (sym came ∙ came')) asked) (performed_plain plainly peer its has);
           renewable = λ old is. renewable_told (has_reset worked.effects) refl old (sym (works_renewable e my held the_request o turn) ∙ is);
         }
       where

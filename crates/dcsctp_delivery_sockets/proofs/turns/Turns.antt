@@ -1,21 +1,26 @@
 -- Each turn of a socket is a list of actions.
 use Rattle.dcsctp_delivery_sockets.specs.turns.Actions as actions
-use Rattle.std.proofs.Common.{ℕ, true, false, None, Some, refl, sym, subst}
+use Rattle.std.proofs.Common.{◌≡◌, ◌<◌, ◌^◌, ◌∙◌, ap, ℕ, Option, List, true, false, None, Some, refl, sym, subst}
 use Rattle.dcsctp_spec_lemmas.specs.spec.Cookie.{cookie_of_bytes}
 use Rattle.dcsctp_spec_lemmas.specs.spec.Packet.{Content, init, init_ack, cookie_echo, cookie_ack, re_config, abort, shutdown, shutdown_ack, shutdown_complete, plain}
-use Rattle.dcsctp_spec_lemmas.specs.spec.endpoint.Endpoint.{Endpoint, Core, closed, cookie_wait, cookie_echoed, open_in}
+use Rattle.dcsctp_spec_lemmas.specs.spec.endpoint.Endpoint.{held_by_core, Endpoint, Core, closed, cookie_wait, cookie_echoed, open_in}
 use Rattle.dcsctp_spec_lemmas.specs.spec.endpoint.Outcome.{Outcome}
 use Rattle.dcsctp_spec_lemmas.specs.spec.endpoint.Turn.{Input, arrival, refusal, packet_begins, chunk_input, packet_ends, act_input, user_sets, user_sends, user_resets, user_takes, timer_expires, time_passes, restores, has_data_chunk, ContentTurn, ActTurn, Turn}
 use Rattle.dcsctp_spec_lemmas.specs.spec.association.Acts.{Act, connect, t1_expires, shut_down, step_of_shutdown, shutdown_repeats, abort_with, hands_over, flushes, request_again, request_renewed}
 use Rattle.dcsctp_spec_lemmas.specs.spec.endpoint.TimerOutcomes.{endpoint_with_t1_continued}
-use Rattle.dcsctp_delivery_sockets.specs.turns.Actions.{IsCalm, inside, Becomes, resets_streams, streams_user_resets, goes_on, pauses, prepared_inside, content_of_input, queued_after, read_after, IsCall, peer_tag}
+use Rattle.std.specs.List.{AllByRecursion}
+use Rattle.dcsctp_spec_lemmas.specs.spec.endpoint.Event.{packets_of_events}
+use Rattle.dcsctp_spec_lemmas.specs.spec.endpoint.PreparedResets.{ResetRefusal, refusal_of_peer, reset_refusal, PreparesUnlessRefused}
+use Rattle.dcsctp_spec_lemmas.specs.spec.association.Effect.{identity_of_core}
+use Rattle.dcsctp_delivery_sockets.specs.turns.Runs.{accepted_by, accepted_resets}
+use Rattle.dcsctp_delivery_sockets.specs.turns.Actions.{MakesAlso, IsCalm, inside, Becomes, resets_streams, streams_user_resets, goes_on, pauses, prepared_inside, content_of_input, queued_after, read_after, IsCall, peer_tag}
 use Rattle.dcsctp_delivery_sockets.specs.turns.Tags.{IsPeerTag}
 use Rattle.dcsctp_delivery_sockets.proofs.turns.Actions.{Goes, rests, action_of}
 use Rattle.dcsctp_delivery_sockets.proofs.turns.Handshake.{again_link, init_goes, connect_goes, init_ack_goes, cookie_ack_goes, echo_goes, hand_over_goes, abort_goes, aborting_goes, again_goes, gives_up_goes}
 use Rattle.dcsctp_delivery_sockets.proofs.turns.Shutdown.{step_link, step_makes, shut_down_goes, shutdown_ack_goes, shutdown_complete_goes, t2_again_goes, begin_goes}
 use Rattle.dcsctp_delivery_sockets.proofs.turns.Data.{turn_link, flush_makes, end_goes}
 use Rattle.dcsctp_delivery_sockets.proofs.turns.HeardShutdown.{heard_goes}
-use Rattle.dcsctp_delivery_sockets.proofs.turns.Messages.{take_goes, send_goes, own_resets_go}
+use Rattle.dcsctp_delivery_sockets.proofs.turns.Messages.{take_goes, send_goes, own_resets_go, resets_prepare}
 use Rattle.dcsctp_delivery_sockets.proofs.turns.Resets.{reset_goes, idle_goes}
 use Rattle.dcsctp_delivery_sockets.proofs.turns.Others.{plain_goes, timer_goes}
 use Rattle.dcsctp_spec_lemmas.proofs.EarlyLemmas.{content_by}
@@ -59,6 +64,73 @@ act_goes e hands_over o may turn = subst (Goes None (peer_tag e.core) e) (sym tu
 act_goes e flushes o may turn = goes_on none_calm (turn_link e o turn) (flush_makes None none_calm (peer_tag e.core) e o (own_peer e.core) turn)
 act_goes e (request_again reset) o may turn = absurd may
 act_goes e (request_renewed reset) o may turn = absurd may
+
+-- A call that resets streams and isn't refused: these are prepared first, and the association continues.
+pub record Prepares (e : Endpoint) (input : Input) (o : Outcome) (ids : List ℕ) : Type 0 where
+  pub resets : streams_user_resets input ≡ Some ids
+  pub accepted : reset_refusal e ≡ None
+  pub small : AllByRecursion (λ id. id < 2 ^ 16) ids
+  pub linked : identity_of_core o.after.core ≡ identity_of_core e.core
+  pub makes : MakesAlso (content_of_input input) (peer_tag e.core) (queued_after e input) (read_after e input) (prepared_inside ids (inside e)) (packets_of_events o.events) (inside o.after)
+
+prepares_where : (found : Option ResetRefusal) (e : Endpoint) (named ids : List ℕ) (o : Outcome) → reset_refusal e ≡ found → AllByRecursion (λ id. id < 2 ^ 16) named → PreparesUnlessRefused found e named o → accepted_by found named ≡ Some ids → Prepares e (user_resets named) o ids
+prepares_where None e named ids o is may turn same =
+    let one : named ≡ ids = cc in
+    subst (Prepares e (user_resets named) o) one (let made = resets_prepare None none_calm (peer_tag e.core) e named o (own_peer e.core) turn in record { resets = refl; accepted = is; small = may; linked = made.0; makes = made.1 })
+prepares_where (Some why) e named ids o is may turn same = absurd (cc)
+
+-- So it is of each call that isn't refused.
+pub accepted_is : (e : Endpoint) (input : Input) (ids : List ℕ) → streams_user_resets input ≡ Some ids → reset_refusal e ≡ None → accepted_resets e input ≡ Some ids
+accepted_is e arrival ids is accepted = absurd (cc)
+accepted_is e (refusal text) ids is accepted = absurd (cc)
+accepted_is e (packet_begins contents) ids is accepted = absurd (cc)
+accepted_is e (chunk_input tag content) ids is accepted = absurd (cc)
+accepted_is e packet_ends ids is accepted = absurd (cc)
+accepted_is e (act_input act) ids is accepted = absurd (cc)
+accepted_is e (user_sets setting) ids is accepted = absurd (cc)
+accepted_is e (user_sends messages) ids is accepted = absurd (cc)
+accepted_is e (user_resets named) ids is accepted = ap (λ (found : Option ResetRefusal). accepted_by found named) accepted ∙ is
+accepted_is e user_takes ids is accepted = absurd (cc)
+accepted_is e (timer_expires timer) ids is accepted = absurd (cc)
+accepted_is e (time_passes moment) ids is accepted = absurd (cc)
+accepted_is e (restores state) ids is accepted = absurd (cc)
+
+-- There is a peer then.
+pub accepted_linked : (e : Endpoint) (input : Input) (ids : List ℕ) → accepted_resets e input ≡ Some ids → identity_of_core e.core ≡ None → ⊥
+accepted_linked e arrival ids is none = cc
+accepted_linked e (refusal text) ids is none = cc
+accepted_linked e (packet_begins contents) ids is none = cc
+accepted_linked e (chunk_input tag content) ids is none = cc
+accepted_linked e packet_ends ids is none = cc
+accepted_linked e (act_input act) ids is none = cc
+accepted_linked e (user_sets setting) ids is none = cc
+accepted_linked e (user_sends messages) ids is none = cc
+accepted_linked e (user_resets named) ids is none = by_core e.core none is
+  where
+    by_core : (core : Core) → identity_of_core core ≡ None → accepted_by (refusal_of_peer (held_by_core core)) named ≡ Some ids → ⊥
+    by_core closed unlinked accepted = cc
+    by_core (cookie_wait my) unlinked accepted = cc
+    by_core (cookie_echoed my held cookie) unlinked accepted = cc
+    by_core (open_in phase my held) unlinked accepted = cc
+accepted_linked e user_takes ids is none = cc
+accepted_linked e (timer_expires timer) ids is none = cc
+accepted_linked e (time_passes moment) ids is none = cc
+accepted_linked e (restores state) ids is none = cc
+
+pub accepted_prepares : (e : Endpoint) (input : Input) (o : Outcome) (ids : List ℕ) → IsCall input → Turn e input o → accepted_resets e input ≡ Some ids → Prepares e input o ids
+accepted_prepares e arrival o ids may turn is = absurd (cc)
+accepted_prepares e (refusal text) o ids may turn is = absurd (cc)
+accepted_prepares e (packet_begins contents) o ids may turn is = absurd (cc)
+accepted_prepares e (chunk_input tag content) o ids may turn is = absurd (cc)
+accepted_prepares e packet_ends o ids may turn is = absurd (cc)
+accepted_prepares e (act_input act) o ids may turn is = absurd (cc)
+accepted_prepares e (user_sets setting) o ids may turn is = absurd (cc)
+accepted_prepares e (user_sends messages) o ids may turn is = absurd (cc)
+accepted_prepares e (user_resets named) o ids may turn is = prepares_where (reset_refusal e) e named ids o refl may turn is
+accepted_prepares e user_takes o ids may turn is = absurd (cc)
+accepted_prepares e (timer_expires timer) o ids may turn is = absurd (cc)
+accepted_prepares e (time_passes moment) o ids may turn is = absurd (cc)
+accepted_prepares e (restores state) o ids may turn is = absurd (cc)
 
 pub turns_are_actions : (e : Endpoint) (input : Input) (o : Outcome) → IsCall input → Turn e input o → Becomes (streams_user_resets input) (content_of_input input) (peer_tag e.core) (queued_after e input) (read_after e input) e o
 turns_are_actions e arrival o may turn = subst (Goes None (peer_tag e.core) e) (sym turn) (goes_on none_calm refl (rests None (peer_tag e.core) (inside e)))

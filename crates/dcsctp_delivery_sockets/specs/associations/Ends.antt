@@ -26,14 +26,14 @@ use Rattle.dcsctp_delivery_directions.specs.sending.Losing.{AllWaitOn}
 use Rattle.dcsctp_delivery_directions.specs.sending.Flushes.{NoData}
 use Rattle.dcsctp_delivery_directions.specs.sending.ChunkCounts.{chunks_among_packets, chunks_to}
 use Rattle.dcsctp_delivery_directions.specs.sending.Marking.{WaitsNoLonger, FindsMarked, IsMarked}
-use Rattle.dcsctp_delivery_directions.specs.directions.Directions.{PerformedReset, Direction, Beginning, HasReached, BeginsAs, Asking, nothing_asked, DirectionRun}
+use Rattle.dcsctp_delivery_directions.specs.directions.Directions.{PerformedReset, PreparedReset, Direction, Beginning, HasReached, BeginsAs, Asking, nothing_asked, DirectionRun}
 use Rattle.dcsctp_delivery_directions.specs.directions.Requests.{requests_among_packets, requests_to}
 use Rattle.dcsctp_delivery_sockets.specs.turns.Asking.{Own, own_of, AsksFit, SomeFit}
 use Rattle.dcsctp_delivery_sockets.specs.turns.Actions.{NoEnd, peer_tag}
 use Rattle.dcsctp_delivery_sockets.specs.turns.Reports.{AllReportSo, NoReports}
 use Rattle.dcsctp_delivery_sockets.specs.turns.Unbegun.{IsAtZero}
 use Rattle.dcsctp_delivery_sockets.specs.turns.Untouched.{IsTransferUntouched, EchoesMaker}
-use Rattle.dcsctp_delivery_sockets.specs.turns.Runs.{TakesTurnsByOption}
+use Rattle.dcsctp_delivery_sockets.specs.turns.Runs.{prepared_after, TakesTurnsByOption}
 use Rattle.dcsctp_delivery_sockets.specs.associations.Reads.{ReportedReset, Reading, tags_of, with_key, AreOfLink, AllOfLinks}
 
 -- ---- the two ends of a direction
@@ -44,6 +44,7 @@ pub record SendingEnd : Type 0 where
   pub acknowledged : ℕ
   pub sent : List Emission
   pub asking : Asking
+  pub prepared : List PreparedReset
   pub beginning : Beginning
 
 pub record ReceivingEnd : Type 0 where
@@ -66,6 +67,7 @@ direction_of_ends sends gets =
       read = gets.read;
       performed = gets.performed;
       asking = sends.asking;
+      prepared = sends.prepared;
       beginning = sends.beginning;
     }
 
@@ -74,11 +76,16 @@ abbrev pub new_end : Options → ℕ → ReceivingEnd
 new_end options first = record { first_tsn = first; tracker = new_tracker options first; reassembly = new_reassembly options.max_receiver_window_buffer_size (part_overhead options); read = []; performed = [] }
 
 -- Which streams does the user of the sender never reset? And does it reset a stream when so many messages were queued, by a call that
--- isn't refused? Does nothing of the stream wait at each of these calls?
+-- isn't refused? Does nothing of the stream wait at each of these calls? And which calls were made so far, newest first?
 pub record ResetCalls : Type 0 where
   pub never : ℕ → Bool
   pub asks : ℕ → ℕ → Bool
   pub empties : ℕ → ℕ → Bool
+  pub made : List PreparedReset
+
+-- once this turn was taken, if so many messages were queued before it
+abbrev pub calls_after : Endpoint → Input → ℕ → ResetCalls → ResetCalls
+calls_after e input count calls = record calls { made = prepared_after e input count calls.made }
 
 -- For each tag of the sender both ends, and its first TSN; the tag of its peer, and that of the peer before.
 pub record Ends : Type 0 where
@@ -179,6 +186,7 @@ pub record Awaits (sends : SendingEnd) : Type 0 where
   pub acknowledged : sends.acknowledged ≡ 0
   pub transfer : sends.queues.transfer ≡ None
   pub asking : sends.asking ≡ nothing_asked
+  pub prepared : sends.prepared ≡ []
   pub begun : BeginsAs sends.beginning sends.queued sends.queues.queue
 
 -- The packet was sent in an association whose peer has its tag.
@@ -287,6 +295,13 @@ pub record WasReset (gets : ℕ → ReceivingEnd) (past : List Effect) (report :
   pub performed : places.HasEntry report.reset (gets report.tags.peer).performed
   pub was_of : AreOfLink past report.tags
 
+-- The user was told of the reset, in an association whose peer has this tag.
+pub record WasTold (resets : List ReportedReset) (tag : ℕ) (reset : PerformedReset) : Type 0 where
+  pub report : ReportedReset
+  pub has : places.HasEntry report resets
+  pub reset_is : report.reset ≡ reset
+  pub tag_is : report.tags.peer ≡ tag
+
 pub record Receiver (options : Options) (ends : Ends) (e : Endpoint) (past : List Effect) (reading : Reading) : Type 0 where
   pub fits : SomeFit (own_of e)
   pub current : (transfer : Transfer) → e.queues.transfer ≡ Some transfer → IsCurrentEnd ends e past transfer
@@ -294,6 +309,8 @@ pub record Receiver (options : Options) (ends : Ends) (e : Endpoint) (past : Lis
   pub last : (link : AssociationIdentity) → identity_of_core e.core ≡ Some link → reading.last ≡ tags_of link
   pub were_read : (tag : ℕ) → with_key tag reading.reads ≡ (ends.gets tag).read
   pub were_reset : (report : ReportedReset) → places.HasEntry report reading.resets → WasReset ends.gets past report
+  -- A reset that comes again under the next number isn't reported again, with `follow_rfc`.
+  pub were_told : options.follow_rfc ≡ false → (tag : ℕ) (reset : PerformedReset) → places.HasEntry reset (ends.gets tag).performed → WasTold reading.resets tag reset
   pub begun : (tag : ℕ) → (ends.gets tag ≡ new_end options (ends.firsts tag)) ⊎ HadTag past tag (ends.firsts tag)
   pub last_of : AreOfLink past reading.last
   pub reads_of : AllOfLinks past reading.reads
@@ -326,6 +343,7 @@ unbegun_end options =
       acknowledged = 0;
       sent = [];
       asking = nothing_asked;
+      prepared = [];
       beginning = record { from_zero = true; has_all = true; keeps = λ id. false; asks = λ id count. false; empties = λ id count. false };
     }
 
@@ -410,6 +428,8 @@ pub record Between (options : Options) (ends : Ends) (from : SendingSide) (to : 
   pub numbered : (tag : ℕ) → tag ≢ 0 → NumbersFromZero from.endpoint from.past tag → (ends.sends tag).beginning.from_zero ≡ true
   pub kept : (tag : ℕ) → tag ≢ 0 → IsOnlyOwn from.past tag → KeepsThese ends.calls (ends.sends tag).beginning
   pub dropping : (tag : ℕ) → KeepsOnlyThese ends.calls (ends.sends tag).beginning
+  pub made : (tag : ℕ) → tag ≢ 0 → IsOnlyOwn from.past tag → (call : PreparedReset) → places.HasEntry call ends.calls.made → places.HasEntry call (ends.sends tag).prepared
+  pub unmade : NeverHeld from.past → ends.calls.made ≡ []
   pub rules : TakesTurnsByOption from.endpoint
   pub unbegun : NeverHeld from.past → IsUnbegun ends.calls (ends.sends (sender_key from.endpoint.core)).queued from.endpoint
   pub receiver : Receiver options ends to.endpoint to.past to.reading

@@ -16,7 +16,10 @@ use Rattle.dcsctp_delivery_directions.specs.order.Delivered.{AreDeliveredInOrder
 use Rattle.dcsctp_delivery_directions.specs.order.Streams.{AreDeliveredByStream, AreDeliveredOnStreams}
 use Rattle.dcsctp_delivery_directions.specs.order.Complete.{HasNothingLeft, AreAllDelivered}
 use Rattle.dcsctp_delivery_directions.specs.epochs.Asked.{AreCutAsAsked}
-use Rattle.dcsctp_delivery_sockets.specs.associations.Ends.{Ends, IsOnlyOwn, NumbersFromZero, chunks_before, Between, sending_side, receiving_side}
+use Rattle.dcsctp_delivery_directions.specs.epochs.Reports.{PerformBetween}
+use Rattle.dcsctp_delivery_directions.specs.directions.Directions.{PerformedReset}
+use Rattle.dcsctp_spec_lemmas.specs.types.queues.Messages.{MessageContent}
+use Rattle.dcsctp_delivery_sockets.specs.associations.Ends.{ResetCalls, Ends, IsOnlyOwn, NumbersFromZero, chunks_before, Between, sending_side, receiving_side}
 use Rattle.dcsctp_delivery_sockets.specs.associations.Reads.{Reading, with_key}
 
 -- In the association of the sender whose peer has this tag messages interleave (RFC 8260).
@@ -46,13 +49,19 @@ EndsCutAsAsked =
     → Between options ends (sending_side e queued past packets) (receiving_side other their_past reading) → length queued < 2 ^ 64 → ((tag : ℕ) → chunks_before (ends.former tag) packets + chunks_to (ends.latest tag) packets < 2 ^ 30)
     → (tag : ℕ) → NumbersFromZero e past tag → InterleavesUnder past tag → AreCutAsAsked false (nat_le options.max_receiver_window_buffer_size (2 ^ 63)) ends.calls.asks (full_asks ends.calls.empties options.max_receiver_window_buffer_size) (ends.gets tag).performed queued (with_key tag reading.reads)
 
+-- So it is of the resets of one tag, where no message is left out of an epoch before another. And each reset that the sender's user
+-- asked for when nothing of the stream waited is performed before what was queued since is read.
+pub record AreCutByUser (calls : ResetCalls) (size : ℕ) (performed : List PerformedReset) (queued : List Message) (contents : List MessageContent) : Type 0 where
+  pub cut : AreCutAsAsked true (nat_le size (2 ^ 63)) calls.asks (full_asks calls.empties size) performed queued contents
+  pub between : PerformBetween calls.made calls.asks calls.empties performed queued cut.ordered.delivered.places
+
 -- Where the sender has had no other own tag, no message without limits is left out of an epoch before another, if the receive window
 -- is of 2^63 bytes or less.
 abbrev pub EndsCutWithoutGaps : Type 0
 EndsCutWithoutGaps =
     (options : Options) (ends : Ends) (e : Endpoint) (queued : List Message) (past : List Effect) (packets : List Emission) (other : Endpoint) (their_past : List Effect) (reading : Reading)
     → Between options ends (sending_side e queued past packets) (receiving_side other their_past reading) → length queued < 2 ^ 64 → ((tag : ℕ) → chunks_before (ends.former tag) packets + chunks_to (ends.latest tag) packets < 2 ^ 30)
-    → (tag : ℕ) → IsOnlyOwn past tag → InterleavesUnder past tag → AreCutAsAsked true (nat_le options.max_receiver_window_buffer_size (2 ^ 63)) ends.calls.asks (full_asks ends.calls.empties options.max_receiver_window_buffer_size) (ends.gets tag).performed queued (with_key tag reading.reads)
+    → (tag : ℕ) → IsOnlyOwn past tag → InterleavesUnder past tag → AreCutByUser ends.calls options.max_receiver_window_buffer_size (ends.gets tag).performed queued (with_key tag reading.reads)
 
 -- Also where they don't it holds, if besides no message may be abandoned, or few ordered ones were queued on each stream; and no
 -- request to reset streams was sent there.

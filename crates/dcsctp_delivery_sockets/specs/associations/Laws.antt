@@ -28,7 +28,7 @@ use Rattle.dcsctp_spec_lemmas.specs.spec.association.Effect.{holds, completes}
 use Rattle.dcsctp_delivery_directions.specs.directions.Requests.{requests_to}
 use Rattle.dcsctp_delivery_sockets.specs.associations.Answered.{request_numbered, AreAnswered}
 use Rattle.dcsctp_delivery_sockets.specs.turns.Sides.{WasSent}
-use Rattle.dcsctp_delivery_sockets.specs.associations.Ends.{ResetCalls, Ends, NewPeer, TakesOver, NewTag, chunks_before, HadBoth, AreSeen, CameBack, Between, sending_side, receiving_side, SendingSide, ReceivingSide}
+use Rattle.dcsctp_delivery_sockets.specs.associations.Ends.{ResetCalls, calls_after, Ends, NewPeer, TakesOver, NewTag, chunks_before, HadBoth, AreSeen, CameBack, Between, sending_side, receiving_side, SendingSide, ReceivingSide}
 use Rattle.dcsctp_delivery_sockets.specs.associations.Reads.{Reading, nothing_read, reading_after, messages_of}
 
 -- A request of ours that ends as performed was performed by the peer, or it is the 2^32nd of its association.
@@ -65,7 +65,7 @@ ResetsWereSeen seen o = (my : Pair) (number : ℕ) (streams : List ℕ) → HasE
 
 -- Two sockets that were just made have them; `options` are those of the receiver.
 abbrev pub EndsBegin : Type 0
-EndsBegin = (calls : ResetCalls) (mine options : Options) → AreEnds calls [] options (sending_side (fresh_endpoint mine) [] [] []) (receiving_side (fresh_endpoint options) [] nothing_read)
+EndsBegin = (calls : ResetCalls) (mine options : Options) → calls.made ≡ [] → AreEnds calls [] options (sending_side (fresh_endpoint mine) [] [] []) (receiving_side (fresh_endpoint options) [] nothing_read)
 
 -- Each association that is recorded has another peer's tag than those before.
 abbrev pub NewPeerTags : List Effect → Outcome → Type 0
@@ -79,7 +79,7 @@ SendersTurn =
     (seen : List (Event Emission)) (options : Options) (ends : Ends) (e : Endpoint) (queued : List Message) (past : List Effect) (packets : List Emission) (other : Endpoint) (their_past : List Effect) (reading : Reading) (input : Input) (o : Outcome)
     → Between options ends (sending_side e queued past packets) (receiving_side other their_past reading) → AreAnswered ends e past other their_past → AreSeen ends other their_past seen
     → ((link : AssociationIdentity) → identity_of_core e.core ≡ Some link → CameBack (packets_of_events seen) link.my.tag (content_of_input input)) → ((begun : BeginsAssociation e o) → IsOpening (content_of_input input) → identity_of_core o.after.core ≡ Some (identity_of begun.my begun.held) → NewPeer past their_past (identity_of begun.my begun.held) ⊎ TakesOver past their_past e input (identity_of begun.my begun.held)) → length (queued_after e input queued) < 2 ^ 64 → AsksLittle (packets ++ packets_of_events o.events)
-    → RefusesNone e o → ResetsAs ends.calls (length queued) e input → CompletesPerformed their_past o → o.after.options.follow_rfc ≡ e.options.follow_rfc → IsCall input → Turn e input o → AreEnds ends.calls seen options (sending_side o.after (queued_after e input queued) (after_effects o.effects past) (packets ++ packets_of_events o.events)) (receiving_side other their_past reading)
+    → RefusesNone e o → ResetsAs ends.calls (length queued) e input → CompletesPerformed their_past o → o.after.options.follow_rfc ≡ e.options.follow_rfc → IsCall input → Turn e input o → AreEnds (calls_after e input (length queued) ends.calls) seen options (sending_side o.after (queued_after e input queued) (after_effects o.effects past) (packets ++ packets_of_events o.events)) (receiving_side other their_past reading)
 
 -- So does one of the receiver, if what is handled in its association was sent in it, the peer of each association that is recorded
 -- has a new tag, the user is told of resets that are performed, and few requests went to each tag.

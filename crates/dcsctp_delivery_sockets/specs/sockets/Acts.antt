@@ -15,11 +15,12 @@ use Rattle.dcsctp_spec_lemmas.specs.spec.endpoint.Turn.{Turn}
 use Rattle.dcsctp_spec_runs.specs.World.{after_effects}
 use Rattle.dcsctp_spec_lemmas.specs.spec.association.Effect.{AssociationIdentity, Effect, identity_of, identity_of_core}
 use Rattle.dcsctp_delivery_directions.specs.sending.Log.{Message}
+use Rattle.dcsctp_delivery_directions.specs.directions.Directions.{PreparedReset}
 use Rattle.dcsctp_delivery_directions.specs.sending.Places as places
 use Rattle.dcsctp_delivery_sockets.specs.turns.Actions.{content_of_input, queued_after, IsOpening, BeginsAssociation, IsCall}
 use Rattle.dcsctp_delivery_sockets.specs.associations.Answered.{AreAnswered}
 use Rattle.dcsctp_delivery_sockets.specs.associations.Ends.{ResetCalls, Ends, NewPeer, TakesOver, AreSeen, CameBack, Between, sending_side, receiving_side}
-use Rattle.dcsctp_delivery_sockets.specs.turns.Runs.{RefusesNone}
+use Rattle.dcsctp_delivery_sockets.specs.turns.Runs.{prepared_after, RefusesNone}
 use Rattle.dcsctp_delivery_sockets.specs.associations.Laws.{CompletesPerformed, AsksLittle, ResetsAs, AreEnds}
 use Rattle.dcsctp_delivery_sockets.specs.associations.Reads.{Reading}
 use Rattle.dcsctp_delivery_sockets.specs.sockets.Echoes.{GoesToMaker}
@@ -29,6 +30,14 @@ use Rattle.dcsctp_delivery_sockets.specs.sockets.Packets.{reading_through, AreNe
 abbrev pub queued_through : Endpoint → List Transition → List Message → List Message
 queued_through e [] queued = queued
 queued_through e (turn ∷ turns) queued = queued_through turn.outcome.after turns (queued_after e turn.input queued)
+
+-- the calls by which the user resets streams in these turns, newest first, if so many messages were queued before, and these calls made
+abbrev pub made_through : Endpoint → List Transition → List Message → List PreparedReset → List PreparedReset
+made_through e [] queued made = made
+made_through e (turn ∷ turns) queued made = made_through turn.outcome.after turns (queued_after e turn.input queued) (prepared_after e turn.input (length queued) made)
+
+abbrev pub calls_through : Endpoint → List Transition → List Message → ResetCalls → ResetCalls
+calls_through e turns queued calls = record calls { made = made_through e turns queued calls.made }
 
 -- Each of these is a turn.
 abbrev pub AreTurns : Endpoint → List Transition → Type 0
@@ -64,7 +73,7 @@ SendersAct =
     → Between options ends (sending_side e queued past packets) (receiving_side other their_past reading) → AreAnswered ends e past other their_past → AreSeen ends other their_past seen → AreTurns e turns
     → ResetsThrough ends.calls e queued turns → AlongTurns (HearsBack (packets_of_events seen)) e turns → AreNewPeers past their_past e turns → length (queued_through e turns queued) < 2 ^ 64
     → AsksLittle (packets ++ packets_of_events (events_of turns))
-    → AreEnds ends.calls seen options (sending_side (after_all e turns) (queued_through e turns queued) (after_effects (effects_of turns) past) (packets ++ packets_of_events (events_of turns))) (receiving_side other their_past reading)
+    → AreEnds (calls_through e turns queued ends.calls) seen options (sending_side (after_all e turns) (queued_through e turns queued) (after_effects (effects_of turns) past) (packets ++ packets_of_events (events_of turns))) (receiving_side other their_past reading)
 
 -- So does a call at the receiver,
 abbrev pub ReceiversCall : Type 0

@@ -1,6 +1,6 @@
 -- What a user reads is what its peer's user sent, over every list of honest acts of two sockets,
 -- with interleaving or without.
-use Rattle.std.specs.Prelude.{◌≡◌, ◌≢◌, ◌⊎◌, ◌<◌, ◌-◌, ◌^◌, ℕ, List, length, map, true, Some, ◌+◌}
+use Rattle.std.specs.Prelude.{◌≡◌, ◌≢◌, ◌⊎◌, ◌<◌, ◌-◌, ◌^◌, ℕ, List, length, map, true, false, Some, ◌+◌}
 use Rattle.std.specs.List.{AllByRecursion}
 use Rattle.dcsctp_spec_lemmas.specs.types.declared.options.Options.{Options}
 use Rattle.dcsctp_spec_lemmas.specs.types.declared.schedule.Side.{Side}
@@ -182,7 +182,7 @@ pub record Delivers (options : Both Options) (turns : Both (List Transition)) (s
       → IsDeliveredByEpoch (HasReset (of_other side options) (of_other side turns)) (ReportsPeerReset (of_side side options) (of_side side turns) tag)
       (sendings_of_turns (fresh_endpoint (of_other side options)) (of_other side turns)) (read_under tag (of_side side options) (of_side side turns))
   pub in_epochs : (tag : ℕ) → HasOneTag (recorded_past (of_other side turns)) → Interleaves (recorded_past (of_other side turns)) tag
-      → IsDeliveredInEpochs (HasReset (of_other side options) (of_other side turns)) (ResetsWithNoneWaiting (of_other side options) (of_other side turns)) (ReportsPeerReset (of_side side options) (of_side side turns) tag)
+      → IsDeliveredInEpochs ((of_side side options).follow_rfc ≡ false) (HasReset (of_other side options) (of_other side turns)) (ResetsWithNoneWaiting (of_other side options) (of_other side turns)) (ReportsPeerReset (of_side side options) (of_side side turns) tag)
       (sendings_of_turns (fresh_endpoint (of_other side options)) (of_other side turns)) (read_under tag (of_side side options) (of_side side turns))
 
 -- So it is at the end of a run that is honest, in which no tag was drawn twice, each served one association or two of which the one

@@ -103,9 +103,38 @@ pub record IsSplitWithoutGaps (asked empty : ℕ → Type 0) (sent : List Sendin
   pub no_gap : HaveNoGapBefore asked sent stream split.count places
   pub all : empty split.count → index ≤ length places → AreReadBefore asked sent stream index split.count places
 
+-- ---- what a reset that is asked for waits for
+
+-- The message of the stream was read.
+pub record IsReadMessage (sent : List Sending) (stream : ℕ) (places : List ℕ) (place : ℕ) : Type 0 where
+  pub on : IsStreamMessage sent stream place
+  pub has : HasEntry place places
+
+-- A reset of the stream is reported for which the user asked once it had sent the earlier message, and when it had sent at most so many:
+-- what was sent before is read before the report, or can be, and what was sent since is read after it.
+pub record IsReportedBetween (asked : ℕ → Type 0) (told : List ℕ → ℕ → Type 0) (sent : List Sending) (stream earlier count : ℕ) (places : List ℕ) : Type 0 where
+  pub streams : List ℕ
+  pub index : ℕ
+  pub report : told streams index
+  pub names : names_stream streams stream ≡ true
+  pub place : ℕ
+  pub ask : asked place
+  pub from : earlier < place
+  pub to : place ≤ count
+  pub split : AreSplit sent stream index place places
+
+-- So it is between each two messages of the stream that are both read, ordered or not, with limits or without, if the user asked for a
+-- reset between them, when none of the stream waited.
+abbrev pub ReportsBetween : (ℕ → Type 0) → (ℕ → Type 0) → (List ℕ → ℕ → Type 0) → List Sending → ℕ → List ℕ → Type 0
+ReportsBetween asked empty told sent stream places =
+    (earlier later count : ℕ) → asked count → empty count → IsReadMessage sent stream places earlier → IsReadMessage sent stream places later → earlier < count → count ≤ later
+    → IsReportedBetween asked told sent stream earlier count places
+
 -- Each reset that is reported splits them so. And since the last one none is missing either: what is read of an epoch's ordered
--- messages without limits is a prefix of those that were sent in it.
-pub record IsDeliveredInEpochs (asked empty : ℕ → ℕ → Type 0) (told : List ℕ → ℕ → Type 0) (sent : List Sending) (read : List MessageContent) : Type 0 where
+-- messages without limits is a prefix of those that were sent in it. What is sent after a reset was asked for is read only once that was reported, if the other socket
+-- tells of each that it performs.
+pub record IsDeliveredInEpochs (tells_each : Type 0) (asked empty : ℕ → ℕ → Type 0) (told : List ℕ → ℕ → Type 0) (sent : List Sending) (read : List MessageContent) : Type 0 where
   pub delivered : IsDeliveredInOrder sent read
   pub epochs : (streams : List ℕ) (index : ℕ) → told streams index → (stream : ℕ) → names_stream streams stream ≡ true → IsSplitWithoutGaps (asked stream) (empty stream) sent stream index delivered.places
   pub no_gap : (stream : ℕ) → HaveNoGapBefore (asked stream) sent stream (length sent) delivered.places
+  pub between : tells_each → (stream : ℕ) → ReportsBetween (asked stream) (empty stream) told sent stream delivered.places

@@ -5,7 +5,7 @@ use Rattle.dcsctp_spec_lemmas.specs.spec.endpoint.Endpoint.{Endpoint}
 use Rattle.dcsctp_spec_lemmas.specs.spec.endpoint.Event.{packets_of_events}
 use Rattle.dcsctp_spec_lemmas.specs.spec.endpoint.Outcome.{Outcome}
 use Rattle.dcsctp_spec_lemmas.specs.spec.Packet.{Emission}
-use Rattle.dcsctp_spec_lemmas.specs.spec.endpoint.Turn.{Input, Turn}
+use Rattle.dcsctp_spec_lemmas.specs.spec.endpoint.Turn.{Input, user_resets, Turn}
 use Rattle.dcsctp_spec_lemmas.specs.spec.association.Effect.{identity_of, identity_of_core}
 use Rattle.dcsctp_spec_lemmas.specs.types.queues.Messages.{MessageContent}
 use Rattle.dcsctp_spec_lemmas.specs.spec.queues.Reassembly.{new_reassembly}
@@ -20,7 +20,7 @@ use Rattle.dcsctp_spec_lemmas.specs.spec.Reconfiguration.{RequestedReset, ResetP
 use Rattle.dcsctp_spec_lemmas.specs.spec.association.Effect.{Effect}
 use Rattle.dcsctp_spec_lemmas.specs.spec.association.FlushChanges.{next_number}
 use Rattle.dcsctp_spec_lemmas.specs.spec.endpoint.BegunResets.{BegunReset}
-use Rattle.dcsctp_spec_lemmas.specs.spec.endpoint.PreparedResets.{reset_refusal}
+use Rattle.dcsctp_spec_lemmas.specs.spec.endpoint.PreparedResets.{ResetRefusal, reset_refusal}
 use Rattle.dcsctp_spec_lemmas.specs.spec.endpoint.ResetOutcomes.{has_completed, has_reset, first_reset_request}
 use Rattle.dcsctp_delivery_directions.specs.receiving.Clear.{IsOwn}
 use Rattle.dcsctp_delivery_sockets.specs.turns.Asking.{own_of, AsksFit, SomeFit, AskingGrows}
@@ -28,7 +28,7 @@ use Rattle.dcsctp_delivery_sockets.specs.turns.Addressed.{AreAddressed}
 use Rattle.dcsctp_delivery_sockets.specs.turns.Reports.{ComesReported}
 use Rattle.dcsctp_delivery_directions.specs.sending.Queueing.{QueueWaits}
 use Rattle.dcsctp_delivery_sockets.specs.turns.Sides.{WasSent, receiving}
-use Rattle.dcsctp_delivery_directions.specs.directions.Directions.{MayReset, PerformedReset, Direction, Beginning, HasReached, BeginsAs, Asking, nothing_asked, asking_renewed, all_ended, DirectionRun, IsAwaited}
+use Rattle.dcsctp_delivery_directions.specs.directions.Directions.{MayReset, PerformedReset, PreparedReset, Direction, Beginning, HasReached, BeginsAs, Asking, nothing_asked, asking_renewed, all_ended, DirectionRun, IsAwaited}
 
 -- the direction, with this at its sender
 abbrev pub direction_with_sender : Direction → List Message → EndpointQueues → ℕ → List Emission → Asking → Direction
@@ -48,8 +48,26 @@ new_direction options first size queued sender_queues acknowledged sent beginnin
       read = [];
       performed = [];
       asking = nothing_asked;
+      prepared = [];
       beginning = beginning;
     }
+
+-- the streams that the user resets by a call, if it isn't refused
+abbrev pub accepted_by : Option ResetRefusal → List ℕ → Option (List ℕ)
+accepted_by None ids = Some ids
+accepted_by (Some refusal) ids = None
+
+abbrev pub accepted_resets : Endpoint → Input → Option (List ℕ)
+accepted_resets e (user_resets ids) = accepted_by (reset_refusal e) ids
+accepted_resets e input = None
+
+-- the calls by which the user has reset streams, newest first, with this one, when so many messages were queued
+abbrev pub prepared_with : Option (List ℕ) → ℕ → List PreparedReset → List PreparedReset
+prepared_with None count prepared = prepared
+prepared_with (Some ids) count prepared = record { ids = ids; count = count } ∷ prepared
+
+abbrev pub prepared_after : Endpoint → Input → ℕ → List PreparedReset → List PreparedReset
+prepared_after e input count prepared = prepared_with (accepted_resets e input) count prepared
 
 -- What was begun: as it was, or once our request has ended or continues under the next number.
 pub data IsBetween (happened : List Effect) (old : Asking) : Asking → Type 0 where
@@ -85,20 +103,21 @@ pub record Outlasts (options : Options) (first size : ℕ) (direction : Directio
 pub data SenderTurns (options : Options) (first size : ℕ) (direction : Direction) (e : Endpoint) (input : Input) (o : Outcome) : Type 0 where
   run_goes_on : identity_of_core o.after.core ≡ identity_of_core e.core → AreAddressed (peer_tag e.core) (packets_of_events o.events) → o.after.queues.queue.is_interleaved ≡ e.queues.queue.is_interleaved
       → (acknowledged : ℕ) (between asking : Asking) → IsBetween o.effects direction.asking between → AskingGrows between asking → AsksFit first (own_of o.after) asking
-      → DirectionRun options first size (direction_with_sender direction (queued_after e input direction.queued) o.after.queues acknowledged (direction.sent ++ packets_of_events o.events) asking) → SenderTurns options first size direction e input o
-  run_ends : identity_of_core o.after.core ≡ None → AreAddressed (peer_tag e.core) (packets_of_events o.events) → (last : EndpointQueues) → last.queue.is_interleaved ≡ e.queues.queue.is_interleaved
+      → DirectionRun options first size (record (direction_with_sender direction (queued_after e input direction.queued) o.after.queues acknowledged (direction.sent ++ packets_of_events o.events) asking) { prepared = prepared_after e input (length direction.queued) direction.prepared })
+      → SenderTurns options first size direction e input o
+  run_ends : accepted_resets e input ≡ None → identity_of_core o.after.core ≡ None → AreAddressed (peer_tag e.core) (packets_of_events o.events) → (last : EndpointQueues) → last.queue.is_interleaved ≡ e.queues.queue.is_interleaved
       → (acknowledged : ℕ) (asking : Asking) → AskingGrows direction.asking asking → AsksFit first (own_of e) asking
       → DirectionRun options first size (direction_with_sender direction (queued_after e input direction.queued) last acknowledged (direction.sent ++ packets_of_events o.events) asking)
       → o.after.queues ≡ record last { transfer = None } → QueueWaits (queued_after e input direction.queued) last.queue → AllByRecursion Fits (queued_after e input direction.queued)
       → SenderTurns options first size direction e input o
-  run_begins : (begun : BeginsAssociation e o) → IsOpening (content_of_input input) → identity_of_core o.after.core ≡ Some (identity_of begun.my begun.held) → AreAddressed begun.held.peer.tag (packets_of_events o.events) → o.after.queues.queue.is_interleaved ≡ begun.held.capabilities.message_interleaving
+  run_begins : accepted_resets e input ≡ None → (begun : BeginsAssociation e o) → IsOpening (content_of_input input) → identity_of_core o.after.core ≡ Some (identity_of begun.my begun.held) → AreAddressed begun.held.peer.tag (packets_of_events o.events) → o.after.queues.queue.is_interleaved ≡ begun.held.capabilities.message_interleaving
       → queued_after e input direction.queued ≡ direction.queued
       → QueueWaits direction.queued e.queues.queue → AllByRecursion Fits direction.queued
       → ((other : Options) (room : ℕ) (awaiting : Direction) (queued : List Message) (beginning : Beginning) → QueueWaits queued e.queues.queue → AllByRecursion Fits queued → DirectionRun other begun.my.first_tsn room awaiting → IsAwaited awaiting
       → BeginsAs beginning queued begun.queue → (acknowledged : ℕ) × (asking : Asking) × AskingGrows nothing_asked asking × AsksFit begun.my.first_tsn (own_of o.after) asking
-      × DirectionRun other begun.my.first_tsn room (record (direction_with_sender awaiting queued o.after.queues acknowledged (packets_of_events o.events) asking) { beginning = beginning }))
+      × DirectionRun other begun.my.first_tsn room (record (direction_with_sender awaiting queued o.after.queues acknowledged (packets_of_events o.events) asking) { prepared = []; beginning = beginning }))
       → SenderTurns options first size direction e input o
-  run_outlasts : (collision : Collides (content_of_input input) e o) → queued_after e input direction.queued ≡ direction.queued
+  run_outlasts : accepted_resets e input ≡ None → (collision : Collides (content_of_input input) e o) → queued_after e input direction.queued ≡ direction.queued
       → (first ≡ collision.opened.link.my.first_tsn → direction.asking ≡ nothing_asked → Outlasts options first size direction (taken_turn e input o) collision) → SenderTurns options first size direction e input o
 
 -- Where the turn ends a request as performed, the receiver has performed the newest one, with interleaving.
@@ -194,7 +213,7 @@ PerformsByTurn is_known input o direction asking =
 -- performed in the turn.
 pub data RecordsByTurn (input : Input) (o : Outcome) (count : ℕ) (old : List PerformedReset) : List PerformedReset → Type 0 where
   records_none : (has_reset o.effects ≡ false) ⊎ IsCalm (content_of_input input) → RecordsByTurn input o count old old
-  records_one : (parameters : List ResetParameter) (reset : RequestedReset) → content_of_input input ≡ Some (re_config parameters) → first_reset_request parameters ≡ Some reset
+  records_one : has_reset o.effects ≡ true → (parameters : List ResetParameter) (reset : RequestedReset) → content_of_input input ≡ Some (re_config parameters) → first_reset_request parameters ≡ Some reset
       → RecordsByTurn input o count old (record { streams = reset.streams; index = count } ∷ old)
 
 -- how many messages were read of these, or are ready

@@ -14,7 +14,7 @@ use Rattle.dcsctp_delivery_sockets.specs.turns.Actions.{Ledger, Actions}
 use Rattle.dcsctp_delivery_sockets.specs.turns.PeerRequests.{SameWaits}
 use Rattle.dcsctp_delivery_sockets.specs.turns.Reports.{ComesReported}
 use Rattle.dcsctp_delivery_directions.specs.sending.Places.{HasEntry}
-use Rattle.dcsctp_delivery_directions.specs.directions.Directions.{PerformedReset, Direction, Beginning, HasReached, DirectionStep, DirectionRun}
+use Rattle.dcsctp_delivery_directions.specs.directions.Directions.{PerformedReset, PreparedReset, Direction, Beginning, HasReached, DirectionStep, DirectionRun}
 
 -- one step after another
 pub data DirectionSteps (old : Direction) : Direction → Type 0 where
@@ -27,15 +27,16 @@ StepsGoOn = (options : Options) (first size : ℕ) (old new : Direction) → Dir
 
 -- ---- the direction on which it sends
 
--- what the other side has received, what its user has read, and which resets it has performed
+-- what the other side has received, what its user has read, which resets it has performed, and by which calls the own user has reset streams
 pub record ReceivedSoFar : Type 0 where
   pub tracker : TrackerState
   pub reassembly : ReassemblyState
   pub read : List MessageContent
   pub performed : List PerformedReset
+  pub prepared : List PreparedReset
 
 abbrev pub received_so_far : Direction → ReceivedSoFar
-received_so_far direction = record { tracker = direction.tracker; reassembly = direction.reassembly; read = direction.read; performed = direction.performed }
+received_so_far direction = record { tracker = direction.tracker; reassembly = direction.reassembly; read = direction.read; performed = direction.performed; prepared = direction.prepared }
 
 -- the direction, with what the other side has received, and how the socket began
 abbrev pub sending : Ledger → ℕ → ℕ → ReceivedSoFar → Beginning → Direction
@@ -51,6 +52,7 @@ sending own acknowledged first_tsn received beginning =
       read = received.read;
       performed = received.performed;
       asking = own.asking;
+      prepared = received.prepared;
       beginning = beginning;
     }
 

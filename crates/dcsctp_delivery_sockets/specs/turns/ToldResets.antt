@@ -1,5 +1,5 @@
 -- Which resets of its streams a socket's user is told of (RFC 6525, section 5.2.2).
-use Rattle.std.specs.Prelude.{◌≡◌, ◌⊎◌, ℕ, true, None, Some, List}
+use Rattle.std.specs.Prelude.{◌≡◌, ◌⊎◌, ℕ, true, false, None, Some, List}
 use Rattle.dcsctp_spec_lemmas.specs.types.declared.association.Pair.{Pair}
 use Rattle.dcsctp_spec_lemmas.specs.spec.Packet.{re_config}
 use Rattle.dcsctp_spec_lemmas.specs.spec.Reconfiguration.{RequestedReset, NumberedReset, ResetParameter}
@@ -22,6 +22,9 @@ IsReportedReset e o streams = HasEntry (incoming_stream_reset streams) o.events 
 pub record ReportsResets (e : Endpoint) (input : Input) (o : Outcome) : Type 0 where
   pub performed : (peer : Pair) (number : ℕ) → WasPerformed peer number o.effects → (parameters : List ResetParameter) (reset : RequestedReset) → content_of_input input ≡ Some (re_config parameters) → first_reset_request parameters ≡ Some reset
       → IsReportedReset e o reset.streams
+  -- Without `follow_rfc` the user is told of each.
+  pub each_told : e.options.follow_rfc ≡ false → (peer : Pair) (number : ℕ) → WasPerformed peer number o.effects → (parameters : List ResetParameter) (reset : RequestedReset) → content_of_input input ≡ Some (re_config parameters) → first_reset_request parameters ≡ Some reset
+      → HasEntry (incoming_stream_reset reset.streams) o.events
   pub renewable : (old : NumberedReset) → o.after.renewable ≡ Some old → IsReportedReset e o old.reset.streams
 
 -- These are the streams of the request that is handled.

@@ -5,7 +5,7 @@ use Rattle.dcsctp_delivery_sockets.proofs.sockets_laws.acts_keep_ends.Goals as g
 
 pub returns-clause-sends : goal.returns-clause-sends
 returns-clause-sends c = λ seen options ends e queued past packets other their_past reading turns between answered reported taken resets back new few little.
-    senders_act ends.calls seen options other their_past reading turns e queued past packets (record { ends = ends; is = refl; between = between; answered = answered; reported = reported }) taken resets back new few little
+    senders_act ends.calls seen options other their_past reading turns e queued past packets ends.calls.made (record { ends = ends; is = refl; between = between; answered = answered; reported = reported }) taken resets back new few little
 
 pub returns-clause-calls : goal.returns-clause-calls
 returns-clause-calls c = λ seen options ends e queued past packets other their_past reading call turns between answered reported few little user taken may new.
