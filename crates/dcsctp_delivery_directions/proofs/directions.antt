@@ -1,3 +1,4 @@
+pub mod InTurn
 pub mod Standing
 pub mod Cleared
 pub mod UnderWays

@@ -3,3 +3,4 @@ pub mod Directions
 pub mod Cuts
 pub mod Asked
 pub mod Reports
+pub mod InTurn

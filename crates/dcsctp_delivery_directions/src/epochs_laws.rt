@@ -4,6 +4,7 @@
 ghost use Rattle.dcsctp_delivery_directions.specs.epochs.Asked.{DirectionsCutAsAsked};
 ghost use Rattle.dcsctp_delivery_directions.specs.epochs.Cuts.{DirectionsDeliverByEpoch};
 ghost use Rattle.dcsctp_delivery_directions.specs.epochs.Directions.{DirectionsSendByEpoch};
+ghost use Rattle.dcsctp_delivery_directions.specs.epochs.InTurn.{DirectionsSendAsAsked, DirectionsSplitInTurn, DirectionsSplitAsAsked};
 ghost use Rattle.dcsctp_delivery_directions.specs.epochs.Reports.{DirectionsCutByCalls};
 
 /// With interleaving what was queued on a stream before its user asked for a reset is sent before the reset, or never,
@@ -38,4 +39,20 @@ pub fn directions_cut_as_asked()
 /// waits. Then the receiver has performed a reset of it that was asked for between them: it separates them.
 pub fn directions_cut_by_calls()
     ensures { DirectionsCutByCalls }
+{}
+
+/// With interleaving and without, what was queued on a stream before its user asked for a reset is sent before the reset,
+/// or never, and what was queued since is sent after it, on later TSNs (RFC 6525, section 5.1.2). It is so also where a
+/// request fails: then the stream goes on as it was.
+pub fn directions_send_as_asked()
+    ensures { DirectionsSendAsAsked }
+{}
+
+/// Without interleaving each reset of a stream that the receiver performs was asked for by the sender's user (RFC 6525,
+/// section 5.1.2): of the messages of the stream, ordered or not, those that were read or are ready then were queued
+/// before that, and those that come later since. This is shown where each request ends only once its reset was performed,
+/// none fails, and only the newest is performed, once. Messages may have limits, and TSNs may be passed.
+pub fn directions_split_as_asked()
+    ensures any_run { DirectionsSplitAsAsked }
+    ensures in_turn { DirectionsSplitInTurn }
 {}

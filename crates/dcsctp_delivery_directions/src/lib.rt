@@ -15,7 +15,7 @@ pub use directions_laws::{
 };
 pub use epochs_laws::{
     directions_cut_as_asked, directions_cut_by_calls, directions_deliver_by_epoch,
-    directions_send_by_epoch,
+    directions_send_as_asked, directions_send_by_epoch, directions_split_as_asked,
 };
 pub use order_laws::{
     directions_deliver_in_order, directions_deliver_without_gaps, incoming_stays_in_order,

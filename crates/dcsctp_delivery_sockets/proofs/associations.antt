@@ -36,3 +36,4 @@ pub mod InOrder
 pub mod Tagged
 pub mod Moved
 pub mod WhatIsReset
+pub mod Split

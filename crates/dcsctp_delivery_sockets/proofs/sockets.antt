@@ -33,3 +33,4 @@ pub mod AskedResets
 pub mod ToldResets
 pub mod MadeResets
 pub mod Epochs
+pub mod Split

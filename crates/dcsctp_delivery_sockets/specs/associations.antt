@@ -3,3 +3,4 @@ pub mod Ends
 pub mod Answered
 pub mod InOrder
 pub mod Laws
+pub mod Split

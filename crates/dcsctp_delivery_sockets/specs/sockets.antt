@@ -8,3 +8,4 @@ pub mod Delivery
 pub mod Shown
 pub mod ShownDelivery
 pub mod Kinds
+pub mod Split

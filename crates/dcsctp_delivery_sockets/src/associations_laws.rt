@@ -2,6 +2,7 @@
 //! the sender has sent to it and what the receiver has received under it; a tag serves one association. Turn by turn
 //! of either side, what was read was sent, and nothing was read twice, in any association.
 
+ghost use Rattle.dcsctp_delivery_sockets.specs.associations.Split.{EndsSplitAsAsked};
 ghost use Rattle.dcsctp_delivery_sockets.specs.associations.InOrder.{EndsArrive, EndsCutAsAsked, EndsCutWithoutGaps, EndsDeliverByStream, EndsDeliverOnStreams, EndsDeliverDataInOrder, EndsDeliverWithoutGaps, EndsDeliverInOrder};
 ghost use Rattle.dcsctp_delivery_sockets.specs.associations.Laws.{EndsBegin, EndsDeliver, ReceiversTurn, SendersResets, SendersTurn};
 
@@ -53,6 +54,13 @@ pub fn ends_deliver_in_order()
 pub fn ends_cut_as_asked()
     ensures asked { EndsCutAsAsked }
     ensures without_gaps { EndsCutWithoutGaps }
+{}
+
+/// With interleaving and without, each reset of streams that the receiver has performed was asked for by the sender's
+/// user, and separates what was queued before from what was queued since (RFC 6525, sections 5.1.2 and 5.2.2), where no
+/// request of the sender fails and the numbers of each stream begin at 0.
+pub fn ends_split_as_asked()
+    ensures { EndsSplitAsAsked }
 {}
 
 /// Where the sender had one own tag, what was read of a stream's ordered messages is a prefix of what was queued: none

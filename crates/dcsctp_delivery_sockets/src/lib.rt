@@ -10,7 +10,7 @@ mod turns_laws;
 
 pub use associations_laws::{
     ends_arrive, ends_begin, ends_cut_as_asked, ends_deliver, ends_deliver_in_order,
-    ends_deliver_without_gaps, receivers_turn, senders_resets, senders_turn,
+    ends_deliver_without_gaps, ends_split_as_asked, receivers_turn, senders_resets, senders_turn,
 };
 pub use shown_laws::{flights_are_as_negotiated, shown_tags_suffice, users_read_what_was_sent};
 pub use sockets_laws::{acts_keep_ends, echoes_go_to_makers, packets_keep_ends, sockets_deliver};

@@ -1,4 +1,6 @@
 -- Steps in which the receiver resets no stream: the history continues.
+use Rattle.dcsctp_delivery_directions.specs.directions.Directions.{is_in_turn}
+use Rattle.dcsctp_delivery_directions.proofs.directions.InTurn.{turns_of}
 use Rattle.std.proofs.Common.{◌≡◌, ℕ, Bool, true, false, ◌<◌, ◌≤◌, ◌^◌, Some, List, [], ◌∷◌, ◌++◌, length, refl, sym, ◌∙◌, subst, inl}
 use Rattle.std.specs.Prelude.{◌⊎◌, Option, None}
 use Rattle.dcsctp_spec.specs.endpoint.Event.{Event}
@@ -42,10 +44,10 @@ module _ (first : ℕ) (old : Direction) (s : Stands first old) (below : Endpoin
       record { more = sends.more; log = refl; floors = refl; current = sends.current; marks = (extends_noted (Some begun) sends.ids sends.bound sends.more s.history sends.low).later }
 
 -- The sender ends a reset. With interleaving the receiver has performed it.
-ended_continues : (first : ℕ) (old : Direction) (s : Stands first old) (b : Bool) (is : old.queues.queue.is_interleaved ≡ b) (go_on : old.queues.queue.is_interleaved ≡ true → (old.asking.out ≤ 1) × (old.asking.is_performed ≡ true))
+ended_continues : (first : ℕ) (old : Direction) (s : Stands first old) (b : Bool) (is : old.queues.queue.is_interleaved ≡ b) (go_on : is_in_turn old ≡ true → (old.asking.out ≤ 1) × (old.asking.is_performed ≡ true))
     → (old.queues.queue.is_interleaved ≡ true → old.asking.is_performed ≡ false) → Continues s.history (commits_by first old s b is go_on).history
 unfolding commits_by commits_plain stepped_queue
-ended_continues first old s true is go_on unperformed = absurd (let clash : true ≡ false = sym (go_on is).1 ∙ unperformed is in cc)
+ended_continues first old s true is go_on unperformed = absurd (let clash : true ≡ false = sym (go_on (turns_of old is)).1 ∙ unperformed is in cc)
 ended_continues first old s false is go_on unperformed = continues_same s.history
 
 pub calm_continues : (first : ℕ) (old : Direction) (small : first < 2 ^ 32) (s : Stands first old) (direction : Direction) (few : length direction.queued < 2 ^ 64) (step : DirectionStep old direction)

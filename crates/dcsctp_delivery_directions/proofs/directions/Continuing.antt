@@ -1,5 +1,6 @@
 -- How the history continues, and which streams are handed out to be reset, in each step that ends no
 -- reset.
+use Rattle.dcsctp_delivery_directions.specs.directions.Directions.{is_in_turn}
 use Rattle.std.proofs.Common.{◌≡◌, ℕ, suc, Bool, true, false, ◌<◌, ◌≤◌, ◌^◌, Some, List, [], ◌∷◌, ◌++◌, length, refl, sym, ◌∙◌, arith, subst, inl}
 use Rattle.std.specs.Prelude.{◌⊎◌, Option, None}
 use Rattle.std.specs.List.{AllByRecursion}
@@ -197,13 +198,13 @@ step_continues first old small s _ few (performs_earlier newest earlier new asks
 step_continues first old small s _ few (takes message messages is) ends = continues_same s.history old.queues.queue.streams old.asking.out
 
 -- With interleaving the end of a reset raises floors.
-commits_raise : (first : ℕ) (old : Direction) (s : Stands first old) (b : Bool) (is : old.queues.queue.is_interleaved ≡ b) (go_on : old.queues.queue.is_interleaved ≡ true → (old.asking.out ≤ 1) × (old.asking.is_performed ≡ true)) → b ≡ true
+commits_raise : (first : ℕ) (old : Direction) (s : Stands first old) (b : Bool) (is : old.queues.queue.is_interleaved ≡ b) (go_on : is_in_turn old ≡ true → (old.asking.out ≤ 1) × (old.asking.is_performed ≡ true)) → b ≡ true
     → (commits_by first old s b is go_on).history ≡ floors_raised old.queues.queue.streams s.history
 unfolding commits_by commits_interleaved
 commits_raise first old s true is go_on interleaved = refl
 commits_raise first old s false is go_on interleaved = absurd (cc)
 
-pub ended_raises : (first : ℕ) (old : Direction) (small : first < 2 ^ 32) (s : Stands first old) (few : length old.queued < 2 ^ 64) (go_on : old.queues.queue.is_interleaved ≡ true → (old.asking.out ≤ 1) × (old.asking.is_performed ≡ true))
+pub ended_raises : (first : ℕ) (old : Direction) (small : first < 2 ^ 32) (s : Stands first old) (few : length old.queued < 2 ^ 64) (go_on : is_in_turn old ≡ true → (old.asking.out ≤ 1) × (old.asking.is_performed ≡ true))
     → old.queues.queue.is_interleaved ≡ true → (stepped first old small s _ few (commits go_on)).history ≡ floors_raised old.queues.queue.streams s.history
 unfolding stepped stepped_commits
 ended_raises first old small s few go_on interleaved = commits_raise first old s old.queues.queue.is_interleaved refl go_on interleaved

@@ -1,4 +1,6 @@
 -- The steps of a sender's queue: messages, settings, and resets that end.
+use Rattle.dcsctp_delivery_directions.specs.directions.Directions.{is_in_turn}
+use Rattle.dcsctp_delivery_directions.proofs.directions.InTurn.{turns_of}
 use Rattle.std.proofs.lemmas.Bool.Decides.{leb_tells}
 use Rattle.std.proofs.Common.{◌≡◌, ℕ, zero, suc, Bool, true, false, ◌<◌, ◌≤◌, ◌+◌, ◌^◌, List, [], ◌∷◌, length, take, refl, sym, ◌∙◌, arith, subst, inl, inr}
 use Rattle.std.specs.Prelude.{◌⊎◌}
@@ -232,11 +234,11 @@ module _ (first : ℕ) (old : Direction) (s : Stands first old) where
             );
       }
 
-  unfoldable pub commits_by : (b : Bool) → old.queues.queue.is_interleaved ≡ b → (old.queues.queue.is_interleaved ≡ true → (old.asking.out ≤ 1) × (old.asking.is_performed ≡ true))
+  unfoldable pub commits_by : (b : Bool) → old.queues.queue.is_interleaved ≡ b → (is_in_turn old ≡ true → (old.asking.out ≤ 1) × (old.asking.is_performed ≡ true))
       → Stands first (record old { queues = record old.queues { queue = queue_committed old.queues.queue }; asking = all_ended old.asking })
-  commits_by true is go_on = commits_interleaved is (go_on is).0 (go_on is).1
+  commits_by true is go_on = commits_interleaved is (go_on (turns_of old is)).0 (go_on (turns_of old is)).1
   commits_by false is go_on = commits_plain is
 
-  unfoldable pub stepped_commits : (old.queues.queue.is_interleaved ≡ true → (old.asking.out ≤ 1) × (old.asking.is_performed ≡ true))
+  unfoldable pub stepped_commits : (is_in_turn old ≡ true → (old.asking.out ≤ 1) × (old.asking.is_performed ≡ true))
       → Stands first (record old { queues = record old.queues { queue = queue_committed old.queues.queue }; asking = all_ended old.asking })
   stepped_commits go_on = commits_by old.queues.queue.is_interleaved refl go_on

@@ -1,4 +1,6 @@
 -- Each reset that was performed is a cut at a place where it was asked for.
+use Rattle.dcsctp_delivery_directions.specs.directions.Directions.{is_in_turn}
+use Rattle.dcsctp_delivery_directions.proofs.directions.InTurn.{turns_of}
 use Rattle.std.proofs.Common.{◌≡◌, ℕ, Bool, true, false, ◌<◌, ◌+◌, ◌^◌, List, [], ◌∷◌, length, refl, sym, ◌∙◌, ap, arith, subst, inl, inr, nat_le, take}
 use Rattle.std.specs.Prelude.{Option, None, Some, if◌then◌else◌, ◌&&◌}
 use Rattle.dcsctp_spec.specs.types.declared.options.Options.{Options}
@@ -73,7 +75,7 @@ HaveCuts sized opened cuts direction = (id : ℕ) → opened id ≡ true → (re
 
 module _ (sized : Bool) (first : ℕ) (old : Direction) (small : first < 2 ^ 32) (opened : ℕ → Bool) (asked : ℕ → EpochBounds) (cuts : ℕ → List Cut) (d : DeliversSo sized first old opened asked cuts) (are : AreAsked old.beginning asked)
     (interleaved : old.queues.queue.is_interleaved ≡ true) (have : HaveCuts sized opened cuts old) where
-  module _ (newest : BegunReset) (earlier : List BegunReset) (new : ReassemblyState) (asks : old.asking.requests ≡ newest ∷ earlier) (unknown : old.queues.queue.is_interleaved ≡ true → old.asking.is_performed ≡ false)
+  module _ (newest : BegunReset) (earlier : List BegunReset) (new : ReassemblyState) (asks : old.asking.requests ≡ newest ∷ earlier) (unknown : is_in_turn old ≡ true → old.asking.is_performed ≡ false)
       (reached : is_reset_reached newest.reset old.tracker ≡ true) (own : IsOwn newest.reset old.reassembly.deferral) (leaves : EndsDeferral newest.reset.streams old.reassembly new) where
     abbrev index : ℕ
     index = length old.read + length new.incoming.ready
@@ -141,7 +143,7 @@ module _ (sized : Bool) (first : ℕ) (old : Direction) (small : first < 2 ^ 32)
   cuts_on _ (defers last_tsn streams some) = have
   cuts_on _ (performs newest earlier new asks unknown reached own leaves) = performing_cuts newest earlier new asks unknown reached own leaves
   cuts_on _ (performs_earlier newest earlier new asks unknown reached own leaves) = performing_cuts newest earlier new asks unknown reached own leaves
-  cuts_on _ (resets streams new unmixed some leaves) = absurd (let clash : true ≡ false = sym interleaved ∙ unmixed in cc)
+  cuts_on _ (resets streams new unmixed some leaves) = absurd (let clash : true ≡ false = sym (turns_of old interleaved) ∙ unmixed in cc)
   cuts_on _ (takes message messages ready) = have
 
 -- ---- a run

@@ -1,4 +1,6 @@
 -- With interleaving what is read of a stream is separated by its resets, as it was queued.
+use Rattle.dcsctp_delivery_directions.specs.directions.Directions.{is_in_turn}
+use Rattle.dcsctp_delivery_directions.proofs.directions.InTurn.{turns_of}
 use Rattle.std.proofs.Common.{◌≡◌, ℕ, Bool, true, false, ◌<◌, ◌≤◌, ◌%◌, ◌^◌, List, [], ◌∷◌, ◌++◌, length, refl, sym, ◌∙◌, ap, arith, subst, inl, inr, ◌+◌, ◌-◌, nat_le, length-append}
 use Rattle.std.specs.Prelude.{◌⊎◌, Option, None, Some, if◌then◌else◌}
 use Rattle.dcsctp_spec.specs.types.declared.options.Options.{Options}
@@ -127,14 +129,14 @@ module _ (sized : Bool) (first : ℕ) (old : Direction) (small : first < 2 ^ 32)
             (goes_in_turn first old small opened asked d.goes d.keeps interleaved id) (o.order id (counts_of id)))
             (λ knows. ended_are_read (watch_of sized (known_asks old.beginning) cuts) first old small stands before interleaved one performed (d.zero interleaved from) (λ id known. window known) arrived got same base o id handed knows)
 
-  ends : (few : length old.queued < 2 ^ 64) (go_on : old.queues.queue.is_interleaved ≡ true → (old.asking.out ≤ 1) × (old.asking.is_performed ≡ true)) → (length stands.history.log < 2 ^ 31 → sized ≡ true → old.reassembly.max_size ≤ 2 ^ 63)
+  ends : (few : length old.queued < 2 ^ 64) (go_on : is_in_turn old ≡ true → (old.asking.out ≤ 1) × (old.asking.is_performed ≡ true)) → (length stands.history.log < 2 ^ 31 → sized ≡ true → old.reassembly.max_size ≤ 2 ^ 63)
       → DeliversSo sized first (record old { queues = record old.queues { queue = queue_committed old.queues.queue }; asking = all_ended old.asking }) opened (asked_ended old.queues.queue.streams asked) ended_cuts
   ends few go_on window =
       record {
         goes = goes_further first old small opened asked d.goes _ few (commits go_on);
         keeps = keeps_further first old small opened asked d.goes d.keeps _ few (commits go_on);
         named = λ mark earlier is some. absurd (omega (arith, some));
-        unended = λ interleaved unknown. absurd (let clash : true ≡ false = sym (go_on interleaved).1 ∙ unknown in cc);
+        unended = λ interleaved unknown. absurd (let clash : true ≡ false = sym (go_on (turns_of old interleaved)).1 ∙ unknown in cc);
         zero = λ interleaved from id.
             subst (λ (h : History). AreFloorsAtZero h.floors id) (sym (raises interleaved))
             (raised_zero (is_handed_out (stream_named id old.queues.queue.streams).pause) (stands.history.floors id false) (stands.history.floors id true) (length stands.history.log) (d.zero interleaved from id));
@@ -143,8 +145,8 @@ module _ (sized : Bool) (first : ℕ) (old : Direction) (small : first < 2 ^ 32)
         arrives = λ little interleaved from. (
             let before : length stands.history.log < 2 ^ 31 = subst (λ (h : History). length h.log < 2 ^ 31) (raises interleaved) little in
             subst (λ (h : History). Arrives (watch_of sized (known_asks old.beginning) ended_cuts) first h old.queued old.read old.tracker old.reassembly (queue_committed old.queues.queue).streams) (sym (raises interleaved))
-            (committing_arrives (watch_of sized (known_asks old.beginning) cuts) first old small stands (goes_in_turn first old small opened asked d.goes d.keeps interleaved) before interleaved (go_on interleaved).0 (go_on interleaved).1 (d.zero interleaved from) (d.arrives before interleaved from) ended_cuts shut_same
-            (ends_separate before interleaved from (go_on interleaved).0 (go_on interleaved).1 (window before)))
+            (committing_arrives (watch_of sized (known_asks old.beginning) cuts) first old small stands (goes_in_turn first old small opened asked d.goes d.keeps interleaved) before interleaved (go_on (turns_of old interleaved)).0 (go_on (turns_of old interleaved)).1 (d.zero interleaved from) (d.arrives before interleaved from) ended_cuts shut_same
+            (ends_separate before interleaved from (go_on (turns_of old interleaved)).0 (go_on (turns_of old interleaved)).1 (window before)))
             );
       }
     where
@@ -161,11 +163,11 @@ module _ (sized : Bool) (first : ℕ) (old : Direction) (small : first < 2 ^ 32)
         goes = goes_further first old small opened asked d.goes _ few (rolls_back unmixed);
         keeps = keeps_further first old small opened asked d.goes d.keeps _ few (rolls_back unmixed);
         named = λ mark earlier is some. absurd (omega (arith, some));
-        unended = λ interleaved. absurd (let clash : true ≡ false = sym interleaved ∙ unmixed in cc);
-        zero = λ interleaved. absurd (let clash : true ≡ false = sym interleaved ∙ unmixed in cc);
-        behind = λ interleaved. absurd (let clash : true ≡ false = sym interleaved ∙ unmixed in cc);
+        unended = λ interleaved. absurd (let clash : true ≡ false = sym (turns_of old interleaved) ∙ unmixed in cc);
+        zero = λ interleaved. absurd (let clash : true ≡ false = sym (turns_of old interleaved) ∙ unmixed in cc);
+        behind = λ interleaved. absurd (let clash : true ≡ false = sym (turns_of old interleaved) ∙ unmixed in cc);
         ended_cut = d.ended_cut;
-        arrives = λ little interleaved. absurd (let clash : true ≡ false = sym interleaved ∙ unmixed in cc);
+        arrives = λ little interleaved. absurd (let clash : true ≡ false = sym (turns_of old interleaved) ∙ unmixed in cc);
       }
   delivers_on _ few (performs newest earlier new asks unknown reached own leaves) covered =
       further sized first old small opened asked cuts d _ few (performs newest earlier new asks unknown reached own leaves) (added sized first old small opened asked cuts d newest earlier new asks unknown reached own leaves) (added_grows sized first old small opened asked cuts d newest earlier new asks unknown reached own leaves) tt (added_behind sized first old small opened asked cuts d newest earlier new asks unknown reached own leaves)

@@ -78,7 +78,7 @@ module _ (queued : List Message) (history later : History) (first acknowledged :
   abbrev queues : EndpointQueues
   queues = (flush_of e draft answers).after.queues
 
-  was_sent : (k : ℕ) (f : Piece) → k < length history.log → at_place k later.log ≡ Some (Some f) → at_place k history.log ≡ Some (Some f)
+  pub was_sent : (k : ℕ) (f : Piece) → k < length history.log → at_place k later.log ≡ Some (Some f) → at_place k history.log ≡ Some (Some f)
   was_sent k f low at =
       let (slot, was) = at_some k history.log low in
       let both : Some slot ≡ Some (Some f) = sym (at_more more history.log k slot was) ∙ ap (λ (l : List Slot). at_place k l) (sym grows) ∙ at in
@@ -117,7 +117,7 @@ module _ (queued : List Message) (history later : History) (first acknowledged :
         waits = feeds_from place id queues.queue.streams (fed (λ p. place ≤ p) (λ p. place ≤ p) 0 feeds).fed.feeds;
       }
 
-  flush_stops : (newest : Option ℕ) → HaltsIfAsked newest history e.queues.queue id → HaltsIfAsked newest later queues.queue id
+  pub flush_stops : (newest : Option ℕ) → HaltsIfAsked newest history e.queues.queue id → HaltsIfAsked newest later queues.queue id
   flush_stops None stops = tt
   flush_stops (Some place) stops = λ paused. (
       let s = stops (paused_before ask n e draft answers allowed before.queue_holds.distinct id paused) in

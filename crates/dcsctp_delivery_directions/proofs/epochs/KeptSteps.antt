@@ -1,4 +1,5 @@
 -- What a step leaves of the messages that were queued between two resets of a stream.
+use Rattle.dcsctp_delivery_directions.proofs.directions.InTurn.{turns_of}
 use Rattle.std.proofs.Common.{◌≡◌, ℕ, Bool, true, false, ◌<◌, ◌≤◌, ◌+◌, ◌*◌, ◌^◌, List, ◌++◌, length, refl, sym, ◌∙◌, ap, arith, subst, inl, inr}
 use Rattle.std.specs.Prelude.{Option, None, Some, if◌then◌else◌}
 use Rattle.dcsctp_spec.specs.types.queues.SendStreams.{Stream}
@@ -169,7 +170,7 @@ module _ (id first : ℕ) (old : Direction) (small : first < 2 ^ 32) (s : Stands
   stepped_keeps _ few (commits go_on) interleaved =
       subst (λ (h : History). KeepsEpoch old.queued h (queue_committed old.queues.queue) id (asked_ended old.queues.queue.streams asked id)) (sym (ended_raises first old small s few go_on interleaved))
       (committing_keeps (subst (λ (b : Bool). CountsByKind b s.history old.queues.queue.streams old.queues.queue.held) interleaved s.queues.numbers.counts))
-  stepped_keeps _ few (rolls_back unmixed) interleaved = absurd (let clash : true ≡ false = sym interleaved ∙ unmixed in cc)
+  stepped_keeps _ few (rolls_back unmixed) interleaved = absurd (let clash : true ≡ false = sym (turns_of old interleaved) ∙ unmixed in cc)
   stepped_keeps _ few (queues now sending fits some) interleaved = plain_keeps _ few (queues now sending fits some) interleaved tt tt
   stepped_keeps _ few (sets setting fits) interleaved = plain_keeps _ few (sets setting fits) interleaved tt tt
   stepped_keeps _ few (flushes e draft answers same no_data allowed) interleaved = plain_keeps _ few (flushes e draft answers same no_data allowed) interleaved tt tt
@@ -233,7 +234,7 @@ module _ (id first : ℕ) (old : Direction) (small : first < 2 ^ 32) (s : Stands
       → direction.queues.queue.is_interleaved ≡ true → ArePast (stepped first old small s direction few step).history id (asked_after old direction step asked id)
   stepped_past is_known by_it _ few (commits go_on) interleaved =
       subst (λ (h : History). ArePast h id (asked_ended old.queues.queue.streams asked id)) (sym (ended_raises first old small s few go_on interleaved)) (committing_past is_known by_it)
-  stepped_past is_known by_it _ few (rolls_back unmixed) interleaved = absurd (let clash : true ≡ false = sym interleaved ∙ unmixed in cc)
+  stepped_past is_known by_it _ few (rolls_back unmixed) interleaved = absurd (let clash : true ≡ false = sym (turns_of old interleaved) ∙ unmixed in cc)
   stepped_past is_known by_it _ few (queues now sending fits some) interleaved = plain_past _ few (queues now sending fits some) interleaved tt
   stepped_past is_known by_it _ few (sets setting fits) interleaved = plain_past _ few (sets setting fits) interleaved tt
   stepped_past is_known by_it _ few (prepares ids fit kept) interleaved = plain_past _ few (prepares ids fit kept) interleaved tt

@@ -9,6 +9,7 @@ use Rattle.dcsctp_delivery_directions.specs.sending.Flushes.{begun_reset_of}
 use Rattle.dcsctp_delivery_directions.specs.sending.Log.{History}
 use Rattle.dcsctp_delivery_directions.specs.sending.Places.{HasEntry}
 use Rattle.dcsctp_delivery_directions.specs.directions.Directions.{Asking, asking_with, all_ended, Beginning, PerformedReset, PreparedReset, reset_performed, Direction, DirectionStep, queues, sets, prepares, commits, rolls_back, flushes, resends, resends_nothing, speaks, asks_again, renews, turns_aside, acknowledges, loses, receives, forwards, receives_interleaved, forwards_interleaved, tracks, defers, performs, performs_earlier, resets, takes}
+use Rattle.dcsctp_delivery_directions.proofs.directions.InTurn.{turns_of}
 use Rattle.dcsctp_delivery_directions.proofs.directions.Continuing.{EndsNone, Continues, step_continues, ended_raises}
 use Rattle.dcsctp_delivery_directions.proofs.directions.Losing.{same_beginning}
 use Rattle.dcsctp_delivery_directions.proofs.directions.Performing.{newest_of}
@@ -160,8 +161,8 @@ module _ (sized : Bool) (first : ℕ) (old : Direction) (small : first < 2 ^ 32)
     pauses_on _ few (commits go_on) id count was empties =
         subst (λ (h : History). PauseStands (record old { queues = record old.queues { queue = queue_committed old.queues.queue }; asking = all_ended old.asking }) h.log (asked_ended old.queues.queue.streams asked)
         (cuts_ended old.queues.queue.streams (length old.read + length old.reassembly.incoming.ready) (is_cut_whole sized old.beginning) asked cuts) id count) (sym (ended_raises first old small stands few go_on interleaved))
-        (pause_ends id first old stands asked cuts (go_on interleaved).0 (go_on interleaved).1 j (length old.read + length old.reassembly.incoming.ready) (is_cut_whole sized old.beginning) count (p id count was empties))
-    pauses_on _ few (rolls_back unmixed) id count was empties = absurd (let clash : true ≡ false = sym interleaved ∙ unmixed in cc)
+        (pause_ends id first old stands asked cuts (go_on (turns_of old interleaved)).0 (go_on (turns_of old interleaved)).1 j (length old.read + length old.reassembly.incoming.ready) (is_cut_whole sized old.beginning) count (p id count was empties))
+    pauses_on _ few (rolls_back unmixed) id count was empties = absurd (let clash : true ≡ false = sym (turns_of old interleaved) ∙ unmixed in cc)
     pauses_on _ few (queues now sending fits some) id count was empties = plain_pause _ few (queues now sending fits some) tt id count was empties
     pauses_on _ few (sets setting fits) id count was empties = plain_pause _ few (sets setting fits) tt id count was empties
     pauses_on _ few (flushes e draft answers same no_data allowed) id count was empties = plain_pause _ few (flushes e draft answers same no_data allowed) tt id count was empties

@@ -1,4 +1,6 @@
 -- A reset of streams is performed: all that was sent on them was queued before it was asked for.
+use Rattle.dcsctp_delivery_directions.specs.directions.Directions.{is_in_turn}
+use Rattle.dcsctp_delivery_directions.proofs.directions.InTurn.{turns_of}
 use Rattle.std.proofs.Common.{◌≡◌, ℕ, suc, Bool, true, false, ◌<◌, ◌≤◌, ◌+◌, ◌^◌, List, [], ◌∷◌, ◌++◌, length, length-append, refl, sym, ◌∙◌, ap, arith, subst, inl, inr, take, zero}
 use Rattle.std.specs.Prelude.{◌⊎◌, Option, None, Some, if◌then◌else◌, ◌&&◌}
 use Rattle.dcsctp_spec.specs.types.queues.Messages.{MessageContent}
@@ -154,7 +156,7 @@ module _ (sized : Bool) (first : ℕ) (old : Direction) (small : first < 2 ^ 32)
   abbrev stands : Stands first old
   stands = d.goes.stands
 
-  module _ (newest : BegunReset) (earlier : List BegunReset) (new : ReassemblyState) (asks : old.asking.requests ≡ newest ∷ earlier) (unknown : old.queues.queue.is_interleaved ≡ true → old.asking.is_performed ≡ false)
+  module _ (newest : BegunReset) (earlier : List BegunReset) (new : ReassemblyState) (asks : old.asking.requests ≡ newest ∷ earlier) (unknown : is_in_turn old ≡ true → old.asking.is_performed ≡ false)
       (reached : is_reset_reached newest.reset old.tracker ≡ true) (own : IsOwn newest.reset old.reassembly.deferral) (leaves : EndsDeferral newest.reset.streams old.reassembly new) where
     abbrev pub index : ℕ
     index = length old.read + length new.incoming.ready
@@ -164,7 +166,7 @@ module _ (sized : Bool) (first : ℕ) (old : Direction) (small : first < 2 ^ 32)
 
     some_out : old.queues.queue.is_interleaved ≡ true → 0 < old.asking.out
     some_out interleaved =
-        elim (d.unended interleaved (unknown interleaved)) [
+        elim (d.unended interleaved (unknown (turns_of old interleaved))) [
           | inl none ↦ absurd (let clash : newest ∷ earlier ≡ [] = sym asks ∙ none in cc)
           | inr some ↦ some
         ]

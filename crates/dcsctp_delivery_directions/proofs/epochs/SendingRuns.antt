@@ -1,4 +1,6 @@
 -- With interleaving each stream of a direction is sent by epochs.
+use Rattle.dcsctp_delivery_directions.specs.directions.Directions.{is_in_turn}
+use Rattle.dcsctp_delivery_directions.proofs.directions.InTurn.{turns_of}
 use Rattle.std.proofs.Common.{◌≡◌, ℕ, suc, Bool, true, false, ◌<◌, ◌≤◌, ◌+◌, ◌-◌, ◌^◌, List, [], ◌∷◌, ◌++◌, length, length-append, refl, sym, ◌∙◌, ap, arith, subst}
 use Rattle.std.specs.Prelude.{Option, None, Some, is_some}
 use Rattle.dcsctp_spec.specs.types.declared.options.Options.{Options}
@@ -67,7 +69,7 @@ none_more (slot ∷ more) log same = absurd (omega (arith, same, length-append m
 -- ---- one step
 
 -- the log after a step in which no TSN is assigned
-grown_none : (first : ℕ) (old direction : Direction) (s : Stands first old) (after : Stands first direction) (more : List Slot) → after.history.log ≡ more ++ s.history.log → after.history.floors ≡ s.history.floors
+pub grown_none : (first : ℕ) (old direction : Direction) (s : Stands first old) (after : Stands first direction) (more : List Slot) → after.history.log ≡ more ++ s.history.log → after.history.floors ≡ s.history.floors
     → assigned_count direction ≡ assigned_count old → IsAlike s.history after.history
 grown_none first old direction s after more log floors same =
     let count = after.count in
@@ -101,7 +103,7 @@ module _ (first : ℕ) (old : Direction) (small : first < 2 ^ 32) (s : Stands fi
       subst (λ (h : History). SendsByEpoch (length old.queued) h (queue_committed old.queues.queue) id (asked_ended old.queues.queue.streams asked id)) (sym (ended_raises first old small s few go_on interleaved))
       (committing_by_epoch old.queues.queue s.history (length old.queued) id asked (subst (λ (b : Bool). CountsByKind b s.history old.queues.queue.streams old.queues.queue.held) interleaved s.queues.numbers.counts)
       s.queues.numbers.kept (e interleaved))
-  stepped_by_epoch _ few (rolls_back unmixed) interleaved = absurd (let clash : true ≡ false = sym interleaved ∙ unmixed in cc)
+  stepped_by_epoch _ few (rolls_back unmixed) interleaved = absurd (let clash : true ≡ false = sym (turns_of old interleaved) ∙ unmixed in cc)
   stepped_by_epoch _ few (flushes endpoint draft answers same no_data allowed) interleaved =
       let after = stepped first old small s _ few (flushes endpoint draft answers same no_data allowed) in
       let c = step_continues first old small s _ few (flushes endpoint draft answers same no_data allowed) tt in
@@ -146,7 +148,7 @@ module _ (first : ℕ) (old : Direction) (small : first < 2 ^ 32) (s : Stands fi
   stepped_known opened known _ (sets setting fits) interleaved first' shut = known (sym (setting_kind setting old.queues.queue) ∙ interleaved) first' (sym (setting_open setting old.queues.queue id) ∙ shut)
   stepped_known opened known _ (prepares ids fit dropped) interleaved first' shut = preparing_known ids old.queues.queue (length old.queued) id asked (known (sym (preparing_kind ids old.queues.queue) ∙ interleaved) first') shut
   stepped_known opened known _ (commits go_on) interleaved first' shut = committing_known old.queues.queue id asked (known interleaved first') shut
-  stepped_known opened known _ (rolls_back unmixed) interleaved first' shut = absurd (let clash : true ≡ false = sym interleaved ∙ unmixed in cc)
+  stepped_known opened known _ (rolls_back unmixed) interleaved first' shut = absurd (let clash : true ≡ false = sym (turns_of old interleaved) ∙ unmixed in cc)
   stepped_known opened known _ (flushes endpoint draft answers same no_data allowed) interleaved first' shut =
       let kind = flush_kind first_ask (packets_allowed endpoint.options.max_burst endpoint.core) endpoint draft answers allowed ∙ ap (λ (b : EndpointQueues). b.queue.is_interleaved) same in
       known (sym kind ∙ interleaved) first'
@@ -223,7 +225,7 @@ pub goes_continues : (first : ℕ) (old : Direction) (small : first < 2 ^ 32) (o
 unfolding goes_further
 goes_continues first old small opened asked g direction few step ends = step_continues first old small g.stands direction few step ends
 
-pub goes_ends : (first : ℕ) (old : Direction) (small : first < 2 ^ 32) (opened : ℕ → Bool) (asked : ℕ → EpochBounds) (g : GoesByEpoch first old opened asked) (few : length old.queued < 2 ^ 64) (go_on : old.queues.queue.is_interleaved ≡ true → (old.asking.out ≤ 1) × (old.asking.is_performed ≡ true))
+pub goes_ends : (first : ℕ) (old : Direction) (small : first < 2 ^ 32) (opened : ℕ → Bool) (asked : ℕ → EpochBounds) (g : GoesByEpoch first old opened asked) (few : length old.queued < 2 ^ 64) (go_on : is_in_turn old ≡ true → (old.asking.out ≤ 1) × (old.asking.is_performed ≡ true))
     → old.queues.queue.is_interleaved ≡ true
     → (goes_further first old small opened asked g (record old { queues = record old.queues { queue = queue_committed old.queues.queue }; asking = all_ended old.asking }) few (commits go_on)).stands.history ≡ floors_raised old.queues.queue.streams g.stands.history
 unfolding goes_further

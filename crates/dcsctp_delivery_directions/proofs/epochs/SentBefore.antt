@@ -1,4 +1,5 @@
 -- What was queued on a stream before a reset of it was asked for was sent, if nothing of the stream waited then.
+use Rattle.dcsctp_delivery_directions.proofs.directions.InTurn.{turns_of}
 use Rattle.std.proofs.Common.{◌≡◌, ℕ, Bool, true, false, ◌<◌, ◌≤◌, ◌^◌, List, [], ◌∷◌, length, refl, sym, ◌∙◌, ap, arith, subst, inl, inr}
 use Rattle.std.specs.Prelude.{◌&&◌, Option, None, Some, if◌then◌else◌}
 use Rattle.std.proofs.lemmas.Bool.Decides.{eqb_tells}
@@ -135,7 +136,7 @@ module _ (id first : ℕ) (old : Direction) (small : first < 2 ^ 32) (s : Stands
   stepped_sends _ few (prepares ids fit dropped) interleaved = preparing_sends ids dropped
   stepped_sends _ few (commits go_on) interleaved =
       subst (λ (h : History). SendsBefore old.queued h.log (old.beginning.empties id) id (asked_ended old.queues.queue.streams asked id)) (sym (ended_raises first old small s few go_on interleaved)) committing_sends
-  stepped_sends _ few (rolls_back unmixed) interleaved = absurd (let clash : true ≡ false = sym interleaved ∙ unmixed in cc)
+  stepped_sends _ few (rolls_back unmixed) interleaved = absurd (let clash : true ≡ false = sym (turns_of old interleaved) ∙ unmixed in cc)
   stepped_sends _ few (queues now sending fits some) interleaved = plain_sends _ few (queues now sending fits some) tt refl refl
   stepped_sends _ few (sets setting fits) interleaved = plain_sends _ few (sets setting fits) tt refl refl
   stepped_sends _ few (flushes e draft answers same no_data allowed) interleaved = plain_sends _ few (flushes e draft answers same no_data allowed) tt refl refl

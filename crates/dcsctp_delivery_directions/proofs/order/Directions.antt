@@ -1,4 +1,5 @@
 -- Order holds throughout a run of a direction.
+use Rattle.dcsctp_delivery_directions.proofs.directions.InTurn.{turns_of}
 use Rattle.std.proofs.Common.{◌≡◌, ℕ, Bool, true, false, ◌<◌, ◌+◌, ◌*◌, ◌%◌, ◌^◌, List, [], ◌++◌, length, refl, sym, ◌∙◌, ap, arith, subst, inl, inr}
 use Rattle.std.specs.Prelude.{◌⊎◌, if◌then◌else◌, Option, None, Some}
 use Rattle.std.specs.List.{AllByRecursion}
@@ -154,7 +155,7 @@ steps_in_order first old small g _ few (commits go_on) =
     record {
       stands = s;
       named = λ mark earlier is some. absurd (omega (arith, some));
-      unended = λ interleaved unknown. absurd (let clash : true ≡ false = sym (go_on interleaved).1 ∙ unknown in cc);
+      unended = λ interleaved unknown. absurd (let clash : true ≡ false = sym (go_on (turns_of old interleaved)).1 ∙ unknown in cc);
       zero = λ interleaved from id.
           subst (λ (h : History). AreFloorsAtZero h.floors id) (sym (ended_raises first old small g.stands few go_on interleaved))
           (raised_zero (is_handed_out (stream_named id old.queues.queue.streams).pause) (g.stands.history.floors id false) (g.stands.history.floors id true) (length g.stands.history.log) (g.zero interleaved from id));
@@ -162,16 +163,16 @@ steps_in_order first old small g _ few (commits go_on) =
           let raises = ended_raises first old small g.stands few go_on interleaved in
           let before : length g.stands.history.log < 2 ^ 31 = subst (λ (h : History). length h.log < 2 ^ 31) raises little in
           subst (λ (h : History). Arrives (uncut false any_asked) first h old.queued old.read old.tracker old.reassembly (queue_committed old.queues.queue).streams) (sym raises)
-          (committing_arrives (uncut false any_asked) first old small g.stands (asked_always old.queued g.stands.history) before interleaved (go_on interleaved).0 (go_on interleaved).1 (g.zero interleaved from) (g.arrives before interleaved from) (λ id. []) (λ id shut. refl) (λ got same base o id handed cut has. absurd has))
+          (committing_arrives (uncut false any_asked) first old small g.stands (asked_always old.queued g.stands.history) before interleaved (go_on (turns_of old interleaved)).0 (go_on (turns_of old interleaved)).1 (g.zero interleaved from) (g.arrives before interleaved from) (λ id. []) (λ id shut. refl) (λ got same base o id handed cut has. absurd has))
           );
     }
 steps_in_order first old small g _ few (rolls_back unmixed) =
     record {
       stands = stepped first old small g.stands _ few (rolls_back unmixed);
       named = λ mark earlier is some. absurd (omega (arith, some));
-      unended = λ interleaved. absurd (let clash : true ≡ false = sym interleaved ∙ unmixed in cc);
-      zero = λ interleaved. absurd (let clash : true ≡ false = sym interleaved ∙ unmixed in cc);
-      arrives = λ little interleaved. absurd (let clash : true ≡ false = sym interleaved ∙ unmixed in cc);
+      unended = λ interleaved. absurd (let clash : true ≡ false = sym (turns_of old interleaved) ∙ unmixed in cc);
+      zero = λ interleaved. absurd (let clash : true ≡ false = sym (turns_of old interleaved) ∙ unmixed in cc);
+      arrives = λ little interleaved. absurd (let clash : true ≡ false = sym (turns_of old interleaved) ∙ unmixed in cc);
     }
 steps_in_order first old small g _ few (queues now sending fits some) = goes_on_in_order first old small g _ few (queues now sending fits some) tt
 steps_in_order first old small g _ few (sets setting fits) = goes_on_in_order first old small g _ few (sets setting fits) tt

@@ -87,7 +87,7 @@ module _ (watch : ℕ → Watch) (queued : List Message) (history : History) (qu
       (each : old.max_size ≤ 2 ^ 63 → (n : ℕ) (f : Piece) → IsOfPiece history.log f n → n < offset + 1 → (watch f.message.stream).knows_all ≡ true → (has_received tracker (tracked_number first n) ≡ true) ⊎ HasSkip f.message.stream f.message.is_unordered entries)
       (k : KnowsSkips watch (sent_messages queued history) quiet first taken tracker old) where
     abbrev Told : ℕ → ℕ → Piece → Type 0
-    Told id n f = (HasEntry n taken × (at_place n history.log ≡ Some (Some f))) ⊎ IsSkipped history first now.cumulative id (stream_on id new.incoming.streams).next (skips_of new.deferral) f n
+    Told id n f = (HasEntry n taken × (at_place n history.log ≡ Some (Some f))) ⊎ IsSkipped history first id (record { cumulative = now.cumulative; next = (stream_on id new.incoming.streams).next; skips = (skips_of new.deferral) }) f n
 
     -- The entry passes what the FORWARD-TSN does.
     passed_by : (id n : ℕ) (chosen : List SkippedTo) → ((entry : SkippedTo) → HasEntry entry chosen → HasEntry entry entries) → n < offset + 1 → (mid : ℕ) → HasEntry (Mid (record { 0 = id }) false mid) chosen → IsPassedBy history id n chosen
@@ -106,7 +106,7 @@ module _ (watch : ℕ → Watch) (queued : List Message) (history : History) (qu
               let was : (has_received tracker (tracked_number first n) ≡ true → Told id n f) = λ before. elim (k.each small' id little knows loud counts n f on kind current of before) [
                 | inl t ↦ inl t
                 | inr s ↦ inr
-                    (subst (λ (x : Option WaitingSkips). IsSkipped history first now.cumulative id (stream_on id new.incoming.streams).next x f n) (sym same)
+                    (subst (λ (x : Option WaitingSkips). IsSkipped history first id (record { cumulative = now.cumulative; next = (stream_on id new.incoming.streams).next; skips = x }) f n) (sym same)
                     (skipped_reached history first tracker.cumulative now.cumulative id (stream_on id old.incoming.streams).next (stream_on id new.incoming.streams).next (skips_of old.deferral) f n up (pass id loud counts).0 s))
               ] in
               elim (fresh n received) [

@@ -43,7 +43,7 @@ pub will_reached : (history : History) (first before after id : ℕ) (skips : Op
 unfolding kept_reached
 will_reached history first before after id skips n up w = record { mid = w.mid; has = w.has; kept = kept_reached history first before after up (Mid (record { 0 = id }) false w.mid) w.kept; below = w.below }
 
-pub skipped_reached : (history : History) (first before after id next later : ℕ) (skips : Option WaitingSkips) (f : Piece) (n : ℕ) → before ≤ after → next ≤ later → IsSkipped history first before id next skips f n → IsSkipped history first after id later skips f n
+pub skipped_reached : (history : History) (first before after id next later : ℕ) (skips : Option WaitingSkips) (f : Piece) (n : ℕ) → before ≤ after → next ≤ later → IsSkipped history first id (record { cumulative = before; next = next; skips = skips }) f n → IsSkipped history first id (record { cumulative = after; next = later; skips = skips }) f n
 skipped_reached history first before after id next later skips f n up grows s =
     elim s [
       | inl past ↦ inl (omega (arith, past, grows))
@@ -80,7 +80,7 @@ module _ (watch : ℕ → Watch) (queued : List Message) (history : History) (qu
         each = λ small id little knows loud counts n f on ordered current of received. elim (k.each (omega (arith, small, window)) id little knows loud counts n f on ordered current of received) [
           | inl t ↦ inl t
           | inr s ↦ inr
-              (subst (λ (x : Option WaitingSkips). IsSkipped history first tracker.cumulative id (stream_on id new.incoming.streams).next x f n) (sym same)
+              (subst (λ (x : Option WaitingSkips). IsSkipped history first id (record { cumulative = tracker.cumulative; next = (stream_on id new.incoming.streams).next; skips = x }) f n) (sym same)
               (skipped_reached history first tracker.cumulative tracker.cumulative id (stream_on id old.incoming.streams).next (stream_on id new.incoming.streams).next (skips_of old.deferral) f n (omega arith) (grows id counts loud) s))
         ];
       }

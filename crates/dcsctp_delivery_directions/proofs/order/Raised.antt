@@ -206,7 +206,7 @@ module _ (watch : ℕ → Watch) (queued : List Message) (history : History) (st
 
       by_pause : (id : ℕ) (b : Bool) → is_handed_out (stream_named id streams).pause ≡ b → reassembly.max_size ≤ 2 ^ 63 → id < 2 ^ 16 → (watch id).knows_all ≡ true
           → (n : ℕ) (f : Piece) → f.message.stream ≡ id → f.message.is_unordered ≡ false → IsCurrent raised f → IsOfPiece history.log f n → has_received tracker (tracked_number first n) ≡ true
-          → (HasEntry n taken × (at_place n history.log ≡ Some (Some f))) ⊎ IsSkipped raised first tracker.cumulative id (stream_on id reassembly.incoming.streams).next (skips_of reassembly.deferral) f n
+          → (HasEntry n taken × (at_place n history.log ≡ Some (Some f))) ⊎ IsSkipped raised first id (record { cumulative = tracker.cumulative; next = (stream_on id reassembly.incoming.streams).next; skips = (skips_of reassembly.deferral) }) f n
       by_pause id true handed small little knows n f on kind current of received = absurd (let (m, at) = there f n of in none_current id handed m f at on current)
       by_pause id false shut small little knows n f on kind current of received =
           let loud : quiet id ≡ false = loud_by quiet id (λ is. (let clash : true ≡ false = sym (silent id is) ∙ shut in cc)) in

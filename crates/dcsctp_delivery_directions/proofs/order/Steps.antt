@@ -1,5 +1,6 @@
 -- Each step of a direction that ends no reset leaves what was received in order; and so does the end
 -- of a reset.
+use Rattle.dcsctp_delivery_directions.proofs.directions.InTurn.{turns_of}
 use Rattle.std.proofs.Common.{◌≡◌, ℕ, zero, suc, true, false, ◌<◌, ◌≤◌, ◌+◌, ◌-◌, ◌%◌, ◌^◌, List, [], ◌∷◌, ◌++◌, length, sym, ◌∙◌, arith, subst, Bool, inl, inr, Some}
 use Rattle.std.specs.Prelude.{◌⊎◌}
 use Rattle.std.proofs.lemmas.List.{append-nil}
@@ -207,10 +208,10 @@ module _ (watch : ℕ → Watch) (first : ℕ) (old : Direction) (small : first 
         silent = λ id is. (let q = a.silent id is in record { handed = q.handed; over = q.over; clear = (clear_through_rest id old.reassembly q.clear).0 last_tsn streams });
       }
   arrives_on _ (performs newest earlier new asks unknown reached own leaves) ends named unended covered a =
-      performing_arrives watch first old small s turns little interleaved newest earlier new asks (one_out newest earlier asks (unended (unknown interleaved))) named reached own leaves (λ id known. (covered id known).1) a
+      performing_arrives watch first old small s turns little interleaved newest earlier new asks (one_out newest earlier asks (unended (unknown (turns_of old interleaved)))) named reached own leaves (λ id known. (covered id known).1) a
   arrives_on _ (performs_earlier newest earlier new asks unknown reached own leaves) ends named unended covered a =
-      performing_arrives watch first old small s turns little interleaved newest earlier new asks (one_out newest earlier asks (unended (unknown interleaved))) named reached own leaves (λ id known. (covered id known).1) a
-  arrives_on _ (resets streams new unmixed some leaves) ends named unended covered a = absurd (let clash : true ≡ false = sym interleaved ∙ unmixed in cc)
+      performing_arrives watch first old small s turns little interleaved newest earlier new asks (one_out newest earlier asks (unended (unknown (turns_of old interleaved)))) named reached own leaves (λ id known. (covered id known).1) a
+  arrives_on _ (resets streams new unmixed some leaves) ends named unended covered a = absurd (let clash : true ≡ false = sym (turns_of old interleaved) ∙ unmixed in cc)
   arrives_on _ (takes message messages ready) ends named unended covered a =
       let t = takes_in_order watch old.queued s.history a.quiet first a.places old.tracker old.reassembly message messages ready a.received in
       record {

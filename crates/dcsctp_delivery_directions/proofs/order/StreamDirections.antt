@@ -1,5 +1,6 @@
 -- With interleaving, on each stream that is never reset and has no limits, what is read is a prefix
 -- of what was queued, also where other streams are reset, and messages of others are abandoned.
+use Rattle.dcsctp_delivery_directions.proofs.directions.InTurn.{turns_of}
 use Rattle.std.proofs.Common.{◌≡◌, ◌==◌, ℕ, Bool, true, false, ◌<◌, ◌≤◌, ◌+◌, ◌*◌, ◌^◌, List, [], ◌∷◌, ◌++◌, length, length-append, refl, sym, ◌∙◌, ap, arith, subst, inl, inr}
 use Rattle.std.specs.Prelude.{◌&&◌, ◌||◌, not, Some, if◌then◌else◌}
 use Rattle.std.specs.List.{AllByRecursion}
@@ -305,7 +306,7 @@ gapless_steps gapless first old small g _ few are (commits go_on) kept =
     record {
       stands = s;
       named = λ mark earlier is some. absurd (omega (arith, some));
-      unended = λ interleaved unknown. absurd (let clash : true ≡ false = sym (go_on interleaved).1 ∙ unknown in cc);
+      unended = λ interleaved unknown. absurd (let clash : true ≡ false = sym (go_on (turns_of old interleaved)).1 ∙ unknown in cc);
       zero = λ interleaved from id. subst (λ (h : History). AreFloorsAtZero h.floors id) (sym (raises interleaved))
           (raised_zero (is_handed_out (stream_named id old.queues.queue.streams).pause) (g.stands.history.floors id false) (g.stands.history.floors id true) (length g.stands.history.log) (g.zero interleaved from id));
       unpaused = λ id is. committing_open_on id old.queues.queue (g.unpaused id is);
@@ -316,19 +317,19 @@ gapless_steps gapless first old small g _ few are (commits go_on) kept =
       arrives = λ little interleaved from. (
           let before : length g.stands.history.log < 2 ^ 31 = subst (λ (h : History). length h.log < 2 ^ 31) (raises interleaved) little in
           subst (λ (h : History). Arrives (uncut false any_asked) first h old.queued old.read old.tracker old.reassembly (queue_committed old.queues.queue).streams) (sym (raises interleaved))
-          (committing_arrives (uncut false any_asked) first old small g.stands (asked_always old.queued g.stands.history) before interleaved (go_on interleaved).0 (go_on interleaved).1 (g.zero interleaved from) (g.arrives before interleaved from) (λ id. []) (λ id shut. refl) (λ got same base o id handed cut has. absurd has))
+          (committing_arrives (uncut false any_asked) first old small g.stands (asked_always old.queued g.stands.history) before interleaved (go_on (turns_of old interleaved)).0 (go_on (turns_of old interleaved)).1 (g.zero interleaved from) (g.arrives before interleaved from) (λ id. []) (λ id shut. refl) (λ got same base o id handed cut has. absurd has))
           );
     }
 gapless_steps gapless first old small g _ few are (rolls_back unmixed) kept =
     record {
       stands = stepped first old small g.stands _ few (rolls_back unmixed);
       named = λ mark earlier is some. absurd (omega (arith, some));
-      unended = λ interleaved. absurd (let clash : true ≡ false = sym interleaved ∙ unmixed in cc);
-      zero = λ interleaved. absurd (let clash : true ≡ false = sym interleaved ∙ unmixed in cc);
+      unended = λ interleaved. absurd (let clash : true ≡ false = sym (turns_of old interleaved) ∙ unmixed in cc);
+      zero = λ interleaved. absurd (let clash : true ≡ false = sym (turns_of old interleaved) ∙ unmixed in cc);
       unpaused = λ id is. rolling_back_open_on id old.queues.queue (g.unpaused id is);
-      current = λ interleaved. absurd (let clash : true ≡ false = sym interleaved ∙ unmixed in cc);
-      lost = λ interleaved. absurd (let clash : true ≡ false = sym interleaved ∙ unmixed in cc);
-      arrives = λ little interleaved. absurd (let clash : true ≡ false = sym interleaved ∙ unmixed in cc);
+      current = λ interleaved. absurd (let clash : true ≡ false = sym (turns_of old interleaved) ∙ unmixed in cc);
+      lost = λ interleaved. absurd (let clash : true ≡ false = sym (turns_of old interleaved) ∙ unmixed in cc);
+      arrives = λ little interleaved. absurd (let clash : true ≡ false = sym (turns_of old interleaved) ∙ unmixed in cc);
     }
 gapless_steps gapless first old small g _ few are (queues now sending fits some) kept = gapless_goes_on gapless first old small g _ few are (queues now sending fits some) kept tt
 gapless_steps gapless first old small g _ few are (sets setting fits) kept = gapless_goes_on gapless first old small g _ few are (sets setting fits) kept tt

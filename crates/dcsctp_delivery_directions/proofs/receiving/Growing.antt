@@ -81,7 +81,7 @@ module _ (queued more : List Message) (history wider : History) (goes : GoesOn h
   reassembles_more first got read incoming (untouched none last empty) = untouched none last (λ base. holds_more [] base read incoming (empty base))
   reassembles_more first got read incoming (placed base is holds) = placed base is (holds_more got base read incoming holds)
 
-  received_wider : (first : ℕ) (read : List ℕ) (tracker : TrackerState) (reassembly : ReassemblyState) → OthersArePast wider first tracker.cumulative → HasReceived queued history first read tracker reassembly
+  pub received_wider : (first : ℕ) (read : List ℕ) (tracker : TrackerState) (reassembly : ReassemblyState) → OthersArePast wider first tracker.cumulative → HasReceived queued history first read tracker reassembly
       → HasReceived (more ++ queued) wider first read tracker reassembly
   received_wider first read tracker reassembly old r =
       record {

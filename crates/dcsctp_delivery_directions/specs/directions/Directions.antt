@@ -1,7 +1,7 @@
 -- One direction of an association, by the relations of the machine: what one side queues and sends,
 -- and what the other side receives and its user reads (RFC 9260, section 6), with interleaving or
 -- without (RFC 8260).
-use Rattle.std.specs.Prelude.{◌≡◌, ◌≢◌, ◌<◌, ◌≤◌, ◌+◌, ◌-◌, ◌%◌, ◌^◌, ℕ, suc, Bool, true, false, not, Option, None, Some, is_some, List, [], ◌∷◌, ◌++◌, length}
+use Rattle.std.specs.Prelude.{◌≡◌, ◌≢◌, ◌<◌, ◌≤◌, ◌+◌, ◌-◌, ◌%◌, ◌^◌, ℕ, suc, Bool, true, false, not, Option, None, Some, is_some, List, [], ◌∷◌, ◌++◌, length, ◌||◌}
 use Rattle.dcsctp_spec.specs.wire.Content.{DataContent, IDataContent, SackContent, data_chunk, i_data_chunk, forward_tsn_chunk, i_forward_tsn_chunk}
 use Rattle.dcsctp_spec.specs.types.declared.options.Options.{Options}
 use Rattle.dcsctp_spec.specs.types.queues.SendStreams.{Waiting, Stream, front_of, next_numbers}
@@ -65,6 +65,8 @@ pub record Beginning : Type 0 where
   pub asks : ℕ → ℕ → Bool
   -- Does nothing of the stream wait whenever it does?
   pub empties : ℕ → ℕ → Bool
+  -- Do its requests to reset streams end in turn without interleaving, too?
+  pub in_turn : Bool
 
 -- It keeps each stream so.
 abbrev pub KeepsAll : Beginning → Type 0
@@ -113,6 +115,10 @@ pub record Direction : Type 0 where
   -- the calls by which the sender's user resets streams, newest first
   pub prepared : List PreparedReset
   pub beginning : Beginning
+
+-- Do its requests end in turn: each only once its reset was performed, and none fails? With interleaving they do.
+abbrev pub is_in_turn : Direction → Bool
+is_in_turn direction = direction.queues.queue.is_interleaved || direction.beginning.in_turn
 
 -- A request that was begun names these streams.
 pub record HasAsked (requests : List BegunReset) (streams : List ℕ) : Type 0 where
@@ -169,14 +175,14 @@ pub data DirectionStep (old : Direction) : Direction → Type 0 where
   queues : (now : ℕ) (sending : Sending) → Fits (message_of sending) → 0 < length sending.message.payload
       → DirectionStep old (record old { queued = message_of sending ∷ old.queued; queues = record old.queues { queue = sending_queued now sending old.queues.queue } })
   -- The user sets something, or streams are prepared to be reset, each by a number of 16 bits, for which what waits on them is
-  -- dropped, and if that may be asked for now; or a reset was performed, or was not. With interleaving it is the only one that has no end, the receiver has performed
-  -- it, and none fails.
+  -- dropped, and if that may be asked for now; or a reset was performed, or was not. In turn it is the only one that has no end, the receiver has performed it,
+  -- and none fails.
   sets : (setting : Setting) → SettingFits setting → DirectionStep old (record old { queues = record old.queues { queue = set_in_queue setting old.queues.queue } })
   prepares : (ids : List ℕ) → AllByRecursion (λ id. id < 2 ^ 16) ids → AllByRecursion (MayReset old.beginning (length old.queued) old.queues.queue.streams) ids
       → DirectionStep old (record old { queues = record old.queues { queue = prepared_all ids old.queues.queue }; prepared = record { ids = ids; count = length old.queued } ∷ old.prepared })
-  commits : (old.queues.queue.is_interleaved ≡ true → (old.asking.out ≤ 1) × (old.asking.is_performed ≡ true))
+  commits : (is_in_turn old ≡ true → (old.asking.out ≤ 1) × (old.asking.is_performed ≡ true))
       → DirectionStep old (record old { queues = record old.queues { queue = queue_committed old.queues.queue }; asking = all_ended old.asking })
-  rolls_back : old.queues.queue.is_interleaved ≡ false → DirectionStep old (record old { queues = record old.queues { queue = queue_rolled_back old.queues.queue }; asking = all_ended old.asking })
+  rolls_back : is_in_turn old ≡ false → DirectionStep old (record old { queues = record old.queues { queue = queue_rolled_back old.queues.queue }; asking = all_ended old.asking })
   -- A flush, whose first packet holds no data. It may begin a reset of streams.
   flushes : (e : Endpoint) (draft : Emission) (answers : List Answer) → e.queues ≡ old.queues → NoData draft.packet.contents → FlushAnswers e draft answers
       → DirectionStep old (record old {
@@ -226,18 +232,18 @@ pub data DirectionStep (old : Direction) : Direction → Type 0 where
   tracks : (new : TrackerState) → new.cumulative ≡ old.tracker.cumulative → new.ranges ≡ old.tracker.ranges → DirectionStep old (record old { tracker = new })
   -- The streams of a request that the sender has begun are to be reset once all up to its last TSN was received.
   defers : (last_tsn : ℕ) (streams : List ℕ) → HasAskedUpTo old.asking.requests last_tsn streams → DirectionStep old (record old { reassembly = deferring last_tsn streams old.reassembly })
-  -- The newest reset is performed: all that was sent before it was received, and what waits, waits for it. With interleaving it
+  -- The newest reset is performed: all that was sent before it was received, and what waits, waits for it. In turn it
   -- wasn't performed before under its number.
   performs : (newest : BegunReset) (earlier : List BegunReset) (new : ReassemblyState) → old.asking.requests ≡ newest ∷ earlier
-      → (old.queues.queue.is_interleaved ≡ true → old.asking.is_performed ≡ false) → is_reset_reached newest.reset old.tracker ≡ true → IsOwn newest.reset old.reassembly.deferral
+      → (is_in_turn old ≡ true → old.asking.is_performed ≡ false) → is_reset_reached newest.reset old.tracker ≡ true → IsOwn newest.reset old.reassembly.deferral
       → EndsDeferral newest.reset.streams old.reassembly new → DirectionStep old (record old { reassembly = new; performed = reset_performed newest.reset.streams old.read new ∷ old.performed; asking = record old.asking { is_performed = true } })
   -- An earlier request than the newest is performed, which wants the same: the newest is that one, sent again under another number,
-  -- and with interleaving it wasn't performed under that yet.
+  -- and in turn it wasn't performed under that yet.
   performs_earlier : (newest : BegunReset) (earlier : List BegunReset) (new : ReassemblyState) → old.asking.requests ≡ newest ∷ earlier
-      → (old.queues.queue.is_interleaved ≡ true → old.asking.is_performed ≡ false) → is_reset_reached newest.reset old.tracker ≡ true → IsOwn newest.reset old.reassembly.deferral
+      → (is_in_turn old ≡ true → old.asking.is_performed ≡ false) → is_reset_reached newest.reset old.tracker ≡ true → IsOwn newest.reset old.reassembly.deferral
       → EndsDeferral newest.reset.streams old.reassembly new → DirectionStep old (record old { reassembly = new; performed = reset_performed newest.reset.streams old.read new ∷ old.performed })
-  -- Without interleaving the streams of any request that the sender has begun are reset.
-  resets : (streams : List ℕ) (new : ReassemblyState) → old.queues.queue.is_interleaved ≡ false → HasAsked old.asking.requests streams → EndsDeferral streams old.reassembly new
+  -- Not in turn the streams of any request that the sender has begun are reset.
+  resets : (streams : List ℕ) (new : ReassemblyState) → is_in_turn old ≡ false → HasAsked old.asking.requests streams → EndsDeferral streams old.reassembly new
       → DirectionStep old (record old { reassembly = new; performed = reset_performed streams old.read new ∷ old.performed })
   -- Its user reads a message.
   takes : (message : MessageContent) (messages : List MessageContent) → old.reassembly.incoming.ready ≡ message ∷ messages

@@ -63,15 +63,22 @@ pub record WillSkip (history : History) (first cumulative id : ℕ) (skips : Opt
   pub kept : IsKeptSkip history first cumulative (Mid (record { 0 = id }) false mid)
   pub below : number ≤ kept.offset
 
+-- how far a receiver is: its cumulative TSN, the next number of a stream, and the entries that wait
+pub record SkipState : Type 0 where
+  pub cumulative : ℕ
+  pub next : ℕ
+  pub skips : Option WaitingSkips
+
 -- The message of the piece has a number below the next one of its stream; or it will be skipped.
-abbrev pub IsSkipped : History → ℕ → ℕ → ℕ → ℕ → Option WaitingSkips → Piece → ℕ → Type 0
-IsSkipped history first cumulative id next skips piece number = (piece.mid + 2 ^ 32 < history.floors id false + next) ⊎ WillSkip history first cumulative id skips number
+abbrev pub IsSkipped : History → ℕ → ℕ → SkipState → Piece → ℕ → Type 0
+IsSkipped history first id reached piece number =
+    (piece.mid + 2 ^ 32 < history.floors id false + reached.next) ⊎ WillSkip history first reached.cumulative id reached.skips number
 
 -- Each TSN of an ordered message of the stream that counts as received was received, or its message is skipped.
 abbrev pub AreTakenOrSkipped : History → ℕ → List ℕ → TrackerState → ℕ → ℕ → Option WaitingSkips → Type 0
 AreTakenOrSkipped history first taken tracker id next skips =
     (n : ℕ) (f : Piece) → f.message.stream ≡ id → f.message.is_unordered ≡ false → IsCurrent history f → IsOfPiece history.log f n → has_received tracker (tracked_number first n) ≡ true
-    → (HasEntry n taken × (at_place n history.log ≡ Some (Some f))) ⊎ IsSkipped history first tracker.cumulative id next skips f n
+    → (HasEntry n taken × (at_place n history.log ≡ Some (Some f))) ⊎ IsSkipped history first id (record { cumulative = tracker.cumulative; next = next; skips = skips }) f n
 
 -- What is known of FORWARD-TSNs. With a receive window of 2^63 bytes or less each TSN that counts as received was received, or is
 -- passed by one that skips its message.

@@ -80,7 +80,7 @@ module _ (requests : ℕ → Requests) (mine : Option AssociationIdentity) (past
     stands_none none = answered.in_step (answered.all_performed (accept_first (requests t).asking.requests none) perform empty (inl none))
 
     -- None was performed, so that all want the same.
-    stands_behind : AreAsked (requests t) their_past → (l : List BegunReset) → (requests t).asking.requests ≡ l → (b : Bool) → (requests t).is_interleaved ≡ b → StandsSo (requests t) later waits'
+    stands_behind : AreAsked (requests t) their_past → (l : List BegunReset) → (requests t).asking.requests ≡ l → (b : Bool) → (requests t).in_turn ≡ b → StandsSo (requests t) later waits'
     stands_behind asked [] is b kind = stands_none is
     stands_behind asked (begun ∷ earlier) is false kind = answered.plain kind (λ none. absurd (cc))
     stands_behind asked (begun ∷ earlier) is true kind =
@@ -95,7 +95,7 @@ module _ (requests : ℕ → Requests) (mine : Option AssociationIdentity) (past
 
     stands_new : ((requests t).asking ≡ nothing_asked) ⊎ AreAsked (requests t) their_past → StandsSo (requests t) later waits'
     stands_new (inl none) = stands_none (ap (λ (s : Asking). s.requests) none)
-    stands_new (inr asked) = stands_behind asked (requests t).asking.requests refl (requests t).is_interleaved refl
+    stands_new (inr asked) = stands_behind asked (requests t).asking.requests refl (requests t).in_turn refl
 
     pub begins_expected : AnswersRequests requests mine past (Some new) later waits'
     begins_expected =

@@ -44,6 +44,6 @@ module _ (requests : ℕ → Requests) (mine : Option AssociationIdentity) (past
       (subst (IsOwn due.newest.reset) (sym is) (own_left due.newest.reset waits left due.own (subst (λ (r : RequestedReset). WaitsFor r waits left) due.wants last))) due.unknown))
 
   -- Messages don't interleave.
-  pub defers_plain : (begun : BegunReset) → (requests link.peer.tag).is_interleaved ≡ false → places.HasEntry begun (requests link.peer.tag).asking.requests
+  pub defers_plain : (begun : BegunReset) → (requests link.peer.tag).in_turn ≡ false → places.HasEntry begun (requests link.peer.tag).asking.requests
       → AnswersRequests requests mine past (Some link) (after_effects happened their_past) waits'
   defers_plain begun kind has = stands_at_link (answered.plain kind (λ none. subst (places.HasEntry begun) none has))

@@ -75,14 +75,14 @@ pub opens_anew : (requests : ℕ → Requests) (mine : Option AssociationIdentit
     → AnswersRequests requests mine past theirs their_past waits → new.peer.tag ≢ 0 → HasEffect (holds new) happened → ((link : AssociationIdentity) → HasEffect (holds link) happened → link ≡ new)
     → ((my : Pair) (number : ℕ) → WasPerformed my number happened → ⊥) → IsNewTag their_past new → IsCrossedOrAwaited (requests new.peer.tag) mine new
     → number_to_accept (after_effects happened their_past) ≡ Some (request_numbered new.peer.first_tsn 0) → number_to_perform (after_effects happened their_past) ≡ None → waits' ≡ None
-    → AnswersRequests (table_with new.peer.tag (record { my = new.peer; first = new.peer.first_tsn; asking = (requests new.peer.tag).asking; is_interleaved = (requests new.peer.tag).is_interleaved }) requests)
+    → AnswersRequests (table_with new.peer.tag (record { my = new.peer; first = new.peer.first_tsn; asking = (requests new.peer.tag).asking; in_turn = (requests new.peer.tag).in_turn }) requests)
     mine past (Some new) (after_effects happened their_past) waits'
 opens_anew requests mine past theirs happened their_past waits waits' new a some noted only no_performs is_new (inl crossed) accept perform empty =
     same_requests (table_with new.peer.tag fresh requests) requests mine past (Some new) (after_effects happened their_past) waits' (set_all (λ n r. r ≡ requests n) new.peer.tag fresh requests fresh_is (λ n ne. refl))
     (begins_expected requests mine past theirs happened their_past waits waits' new a some noted only no_performs is_new crossed.0 crossed.1 accept perform empty)
   where
     fresh : Requests
-    fresh = record { my = new.peer; first = new.peer.first_tsn; asking = (requests new.peer.tag).asking; is_interleaved = (requests new.peer.tag).is_interleaved }
+    fresh = record { my = new.peer; first = new.peer.first_tsn; asking = (requests new.peer.tag).asking; in_turn = (requests new.peer.tag).in_turn }
 
     fresh_is : fresh ≡ requests new.peer.tag
     fresh_is =
@@ -93,4 +93,4 @@ opens_anew requests mine past theirs happened their_past waits waits' new a some
     (ap (λ (r : Requests). r.first) (set_same new.peer.tag fresh requests)) (ap (λ (r : Requests). r.my) (set_same new.peer.tag fresh requests)) accept perform empty
   where
     fresh : Requests
-    fresh = record { my = new.peer; first = new.peer.first_tsn; asking = (requests new.peer.tag).asking; is_interleaved = (requests new.peer.tag).is_interleaved }
+    fresh = record { my = new.peer; first = new.peer.first_tsn; asking = (requests new.peer.tag).asking; in_turn = (requests new.peer.tag).in_turn }

@@ -89,7 +89,7 @@ module _ (requests : ℕ → Requests) (mine : Option AssociationIdentity) (past
       }
 
   -- Messages don't interleave.
-  pub performs_plain : (requests t).is_interleaved ≡ false → AnswersRequests requests mine past (Some link) later waits'
+  pub performs_plain : (requests t).in_turn ≡ false → AnswersRequests requests mine past (Some link) later waits'
   performs_plain kind = performs_same here (answered.plain kind (λ none. subst (places.HasEntry begun) none has))
     where
       here : WasJoined later t (requests t).my → WerePerformed (requests t) later

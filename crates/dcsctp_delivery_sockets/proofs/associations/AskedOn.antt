@@ -20,7 +20,7 @@ held_later effects past tag my h = record { link = h.link; held = after_within e
 -- What becomes of a request in the turn: nothing, or it ends. With interleaving it was performed then.
 pub data MayEnd (requests : Requests) (their_past : List Effect) : Asking → Type 0 where
   as_it_was : MayEnd requests their_past requests.asking
-  has_ended : (requests.is_interleaved ≡ true → (newest : BegunReset) (earlier : List BegunReset) → requests.asking.requests ≡ newest ∷ earlier → WasPerformed requests.my newest.number their_past)
+  has_ended : (requests.in_turn ≡ true → (newest : BegunReset) (earlier : List BegunReset) → requests.asking.requests ≡ newest ∷ earlier → WasPerformed requests.my newest.number their_past)
       → MayEnd requests their_past (all_ended requests.asking)
 
 first_of : {one two : BegunReset} {rest others : List BegunReset} → one ∷ rest ≡ two ∷ others → one ≡ two
@@ -47,7 +47,7 @@ module _ (r : Requests) (their_past : List Effect) (a : (r.asking ≡ nothing_as
   no_place place is below = (let none : length r.asking.requests ≡ 0 = ap (λ (l : List BegunReset). length l) (none_of is) in omega (arith, below, none))
 
   -- Where no request is without an end, the newest was performed.
-  newest_was : (between : Asking) → MayEnd r their_past between → between.out ≡ 0 → r.is_interleaved ≡ true → (place : ℕ) → suc place ≡ length r.asking.requests → WasPerformed r.my (request_numbered r.first place) their_past
+  newest_was : (between : Asking) → MayEnd r their_past between → between.out ≡ 0 → r.in_turn ≡ true → (place : ℕ) → suc place ≡ length r.asking.requests → WasPerformed r.my (request_numbered r.first place) their_past
   newest_was between ends none interleaved place last = elim a [ inl is ↦ absurd (no_place place is (omega (arith, last))) | inr asked ↦ go asked between ends none ]
     where
       performed_last : (requests : List BegunReset) → r.asking.requests ≡ requests → AreAsked r their_past
@@ -87,12 +87,12 @@ module _ (r : Requests) (their_past : List Effect) (a : (r.asking ≡ nothing_as
       same : between.requests ≡ r.asking.requests
       same = requests_same between ends
 
-      ended : r.is_interleaved ≡ true → (more : List BegunReset) → asking.requests ≡ more ++ between.requests → asking.out ≡ length more + between.out → asking.out ≡ 0 → (place : ℕ) → suc place ≡ length asking.requests
+      ended : r.in_turn ≡ true → (more : List BegunReset) → asking.requests ≡ more ++ between.requests → asking.out ≡ length more + between.out → asking.out ≡ 0 → (place : ℕ) → suc place ≡ length asking.requests
           → WasPerformed r.my (request_numbered r.first place) their_past
       ended interleaved [] is count none place newest = newest_was between ends (omega (arith, count, none)) interleaved place (newest ∙ ap (λ (l : List BegunReset). length l) (is ∙ same))
       ended interleaved (begun ∷ more) is count none place newest = absurd (omega (arith, count, none))
 
-      one_was : r.is_interleaved ≡ true → (more : List BegunReset) → asking.requests ≡ more ++ between.requests → asking.out ≡ length more + between.out → (newest : BegunReset) (earlier : List BegunReset) → asking.requests ≡ newest ∷ earlier
+      one_was : r.in_turn ≡ true → (more : List BegunReset) → asking.requests ≡ more ++ between.requests → asking.out ≡ length more + between.out → (newest : BegunReset) (earlier : List BegunReset) → asking.requests ≡ newest ∷ earlier
           → ((number : ℕ) × WasPerformed r.my number their_past) ⊎ WantFrom 0 newest.reset asking.requests
       one_was interleaved [] is count newest earlier top =
           elim a [
@@ -112,7 +112,7 @@ module _ (r : Requests) (their_past : List Effect) (a : (r.asking ≡ nothing_as
               let out = begins.out in inl (request_numbered r.first (length rest), newest_was between ends (omega (arith, count, out)) interleaved (length rest) (sym (ap (λ (l : List BegunReset). length l) some)))
       one_was interleaved (begun ∷ other ∷ more) is count newest earlier top = (let out = begins.out in absurd (omega (arith, count, out)))
 
-      performed : r.is_interleaved ≡ true → asking.is_performed ≡ true → (more : List BegunReset) → asking.requests ≡ more ++ between.requests → (more ≡ [] → asking.is_performed ≡ between.is_performed)
+      performed : r.in_turn ≡ true → asking.is_performed ≡ true → (more : List BegunReset) → asking.requests ≡ more ++ between.requests → (more ≡ [] → asking.is_performed ≡ between.is_performed)
           → ((newest : BegunReset) (rest : List BegunReset) → more ≡ newest ∷ rest → asking.is_performed ≡ false) → (place : ℕ) → suc place ≡ length asking.requests → WasPerformed r.my (request_numbered r.first place) their_past
       performed interleaved known [] is same' anew place newest =
           let long : length asking.requests ≡ length r.asking.requests = ap (λ (l : List BegunReset). length l) (is ∙ same) in
@@ -139,7 +139,7 @@ module _ (r : Requests) (their_past : List Effect) (a : (r.asking ≡ nothing_as
           let u = under in
           omega (arith, long, requests, u)
 
-      newest : r.is_interleaved ≡ true → (more : List BegunReset) → asking.requests ≡ more ++ between.requests → (more ≡ [] → asking.is_performed ≡ between.is_performed) → suc at.place ≡ length asking.requests → asking.is_performed ≡ true
+      newest : r.in_turn ≡ true → (more : List BegunReset) → asking.requests ≡ more ++ between.requests → (more ≡ [] → asking.is_performed ≡ between.is_performed) → suc at.place ≡ length asking.requests → asking.is_performed ≡ true
       newest interleaved [] is same' last = same' refl ∙ known_same between ends ∙ at.newest interleaved (last ∙ ap (λ (l : List BegunReset). length l) (is ∙ same))
       newest interleaved (begun ∷ more) is same' last =
           let long : length asking.requests ≡ suc (length more + length between.requests) = ap (λ (l : List BegunReset). length l) is ∙ ap (λ (n : ℕ). suc n) (length-append more between.requests) in
@@ -149,7 +149,7 @@ module _ (r : Requests) (their_past : List Effect) (a : (r.asking ≡ nothing_as
 
   -- `StandsSo` still holds, if the newest request counts as performed where the receiver's past says so.
   pub stands_on : (waits : Option DeferralModel) (between asking : Asking) → MayEnd r their_past between → MayBegin r.first between asking
-      → (r.is_interleaved ≡ true → (newest : BegunReset) (earlier : List BegunReset) → r.asking.requests ≡ newest ∷ earlier → WasPerformed r.my (request_numbered r.first (length earlier)) their_past → r.asking.is_performed ≡ true)
+      → (r.in_turn ≡ true → (newest : BegunReset) (earlier : List BegunReset) → r.asking.requests ≡ newest ∷ earlier → WasPerformed r.my (request_numbered r.first (length earlier)) their_past → r.asking.is_performed ≡ true)
       → StandsSo r their_past waits → StandsSo (after asking) their_past waits
   stands_on waits between asking ends begins known stands = by_more begins.more begins.is begins.same begins.anew begins.count stands
     where
@@ -168,20 +168,20 @@ module _ (r : Requests) (their_past : List Effect) (a : (r.asking ≡ nothing_as
       some_not : (more : List BegunReset) (begun : BegunReset) → asking.requests ≡ begun ∷ more → asking.requests ≡ [] → ⊥
       some_not more begun is none = absurd (cc)
 
-      was_performed : between.out ≡ 0 → r.is_interleaved ≡ true → (newest : BegunReset) (earlier : List BegunReset) → r.asking.requests ≡ newest ∷ earlier → r.asking.is_performed ≡ false → {A : Type 0} → A
+      was_performed : between.out ≡ 0 → r.in_turn ≡ true → (newest : BegunReset) (earlier : List BegunReset) → r.asking.requests ≡ newest ∷ earlier → r.asking.is_performed ≡ false → {A : Type 0} → A
       was_performed none interleaved newest earlier requests un' =
           let long : length r.asking.requests ≡ suc (length earlier) = ap (λ (l : List BegunReset). length l) requests in
           let was : r.asking.is_performed ≡ true = known interleaved newest earlier requests (newest_was between ends none interleaved (length earlier) (sym long)) in
           absurd (cc)
 
-      anew : (begun : BegunReset) → asking.requests ≡ begun ∷ between.requests → asking.is_performed ≡ false → between.out ≡ 0 → r.is_interleaved ≡ true → IsInStep r their_past waits → IsInStep (after asking) their_past waits
+      anew : (begun : BegunReset) → asking.requests ≡ begun ∷ between.requests → asking.is_performed ≡ false → between.out ≡ 0 → r.in_turn ≡ true → IsInStep r their_past waits → IsInStep (after asking) their_past waits
       anew begun is un none interleaved (all_performed accept perform waits_none which) =
           unaccepted begun between.requests (length between.requests) is (omega arith) (subst (WantFrom (length between.requests) begun.reset) (sym is) (λ at. refl, want_beyond (length between.requests) begun.reset between.requests (omega arith)))
           (accept ∙ ap (λ (l : List BegunReset). Some (request_numbered r.first (length l))) (sym same)) perform waits_none un
       anew begun is un none interleaved (unaccepted newest earlier place requests below want accept perform waits_none un') = was_performed none interleaved newest earlier requests un'
       anew begun is un none interleaved (in_progress newest earlier place requests below want accept perform own un') = was_performed none interleaved newest earlier requests un'
 
-      by_kind : (begun : BegunReset) → asking.requests ≡ begun ∷ between.requests → asking.is_performed ≡ false → between.out ≡ 0 → (b : Bool) → r.is_interleaved ≡ b → StandsSo r their_past waits → StandsSo (after asking) their_past waits
+      by_kind : (begun : BegunReset) → asking.requests ≡ begun ∷ between.requests → asking.is_performed ≡ false → between.out ≡ 0 → (b : Bool) → r.in_turn ≡ b → StandsSo r their_past waits → StandsSo (after asking) their_past waits
       by_kind begun is un none false kind stands = plain kind (some_not between.requests begun is)
       by_kind begun is un none true kind (in_step step) = in_step (anew begun is un none kind step)
       by_kind begun is un none true kind (plain not some) = absurd (cc)
@@ -190,5 +190,5 @@ module _ (r : Requests) (their_past : List Effect) (a : (r.asking ≡ nothing_as
           → ((newest : BegunReset) (rest : List BegunReset) → more ≡ newest ∷ rest → asking.is_performed ≡ false) → asking.out ≡ length more + between.out → StandsSo r their_past waits → StandsSo (after asking) their_past waits
       by_more [] is same' anew' count (in_step step) = in_step (kept (is ∙ same) (same' refl ∙ known_same between ends) step)
       by_more [] is same' anew' count (plain not some) = plain not (λ none. some (sym (is ∙ same) ∙ none))
-      by_more (begun ∷ []) is same' anew' count stands = (let out = begins.out in by_kind begun is (anew' begun [] refl) (omega (arith, out, count)) r.is_interleaved refl stands)
+      by_more (begun ∷ []) is same' anew' count stands = (let out = begins.out in by_kind begun is (anew' begun [] refl) (omega (arith, out, count)) r.in_turn refl stands)
       by_more (begun ∷ other ∷ more) is same' anew' count stands = (let out = begins.out in absurd (omega (arith, out, count)))

@@ -146,7 +146,7 @@ ends_begin calls mine options unmade =
       ends = record { sends = λ tag. nothing; gets = λ tag. new_end options 0; firsts = λ tag. 0; latest = λ tag. 0; former = λ tag. None; calls = calls };
       is = refl;
       between = record {
-        runs = λ tag. senders_begin mine options 0 options.max_receiver_window_buffer_size calls.never calls.asks calls.empties;
+        runs = λ tag. senders_begin mine options 0 options.max_receiver_window_buffer_size calls.never calls.asks calls.empties calls.in_turn;
         small = λ tag. omega arith;
         sender = record {
           queues_are = refl;
@@ -174,11 +174,11 @@ ends_begin calls mine options unmade =
         kept = λ tag some only. record { whole = refl; keeps = λ id never. never };
         made = λ tag some only call has. absurd (subst (λ (l : List PreparedReset). HasEntry call l) unmade has);
         unmade = λ never. unmade;
-        dropping = λ tag. record { dropped = λ id resets. resets; asks = refl; empties = refl };
+        dropping = λ tag. record { dropped = λ id resets. resets; asks = refl; empties = refl; in_turn = refl };
         rules = fresh_takes_turns mine;
         unbegun = λ never. record { unlinked = refl; idle = refl; zero = fresh_is_at_zero mine; all = λ id. record { waits = λ place message at. absurd (cc); unpaused = tt } };
         receiver = record { fits = record { first = 0; asking = nothing_asked; fits = tt }; current = λ transfer there. absurd (cc); left = inl refl; last = λ link is. absurd (cc); were_read = λ tag. refl; were_reset = λ report has. absurd has; were_told = λ plainly tag reset has. absurd has; begun = λ tag. inl refl; last_of = inl refl; reads_of = tt };
-        alone = λ tag. inr (senders_begin options options 0 options.max_receiver_window_buffer_size (λ id. false) (λ id count. false) (λ id count. false));
+        alone = λ tag. inr (senders_begin options options 0 options.max_receiver_window_buffer_size (λ id. false) (λ id count. false) (λ id count. false) false);
       };
       answered = record {
         pairs = λ tag. record { tag = 0; first_tsn = 0 };
@@ -200,7 +200,7 @@ ends_begin calls mine options unmade =
     }
   where
     nothing : SendingEnd
-    nothing = record { queued = []; queues = record { queue = empty_queue mine; transfer = None }; acknowledged = 0; sent = []; asking = nothing_asked; prepared = []; beginning = record { from_zero = true; has_all = true; keeps = calls.never; asks = calls.asks; empties = calls.empties } }
+    nothing = record { queued = []; queues = record { queue = empty_queue mine; transfer = None }; acknowledged = 0; sent = []; asking = nothing_asked; prepared = []; beginning = record { from_zero = true; has_all = true; keeps = calls.never; asks = calls.asks; empties = calls.empties; in_turn = calls.in_turn } }
 
     awaits : Awaits nothing
     awaits = record { queued = refl; sent = refl; acknowledged = refl; transfer = refl; asking = refl; prepared = refl; begun = record { zero = λ is. fresh_at_zero mine; whole = λ is id. record { waits = λ place message at. absurd (cc); unpaused = tt }; all = λ id is. record { waits = λ place message at. absurd (cc); unpaused = tt } } }

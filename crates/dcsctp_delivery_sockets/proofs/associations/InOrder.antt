@@ -95,7 +95,7 @@ in_order_unmarked marks queued contents found d =
     }
 
 -- Where a reset separates what was queued, it separates what is marked.
-separate_unmarked : (marks queued : List Message) (id index bound : ℕ) (places : List ℕ) (contents : List MessageContent) → AllFound marks queued → WereQueued marks places contents → Separates marks id index bound places → Separates queued id index bound places
+pub separate_unmarked : (marks queued : List Message) (id index bound : ℕ) (places : List ℕ) (contents : List MessageContent) → AllFound marks queued → WereQueued marks places contents → Separates marks id index bound places → Separates queued id index bound places
 separate_unmarked marks queued id index bound [] contents found were apart = tt
 separate_unmarked marks queued id index bound (place ∷ places) [] found were apart = absurd were
 separate_unmarked marks queued id zero bound (place ∷ places) (content ∷ contents) found were apart = (
@@ -271,10 +271,10 @@ module _ (options : Options) (ends : Ends) (e : Endpoint) (queued : List Message
     (h : Between options ends (sending_side e queued past packets) (receiving_side other their_past reading)) (many : length queued < 2 ^ 64) (few : (tag : ℕ) → chunks_before (ends.former tag) packets + chunks_to (ends.latest tag) packets < 2 ^ 30) where
   -- fewer TSNs were assigned under a tag than can be distinguished
   module _ (tag : ℕ) where
-    short : length (ends.sends tag).queued < 2 ^ 64
+    pub short : length (ends.sends tag).queued < 2 ^ 64
     short = (let fewer = h.sender.short tag in omega (arith, fewer, many))
 
-    little : assigned_count (direction_of_ends (ends.sends tag) (ends.gets tag)) < 2 ^ 31
+    pub little : assigned_count (direction_of_ends (ends.sends tag) (ends.gets tag)) < 2 ^ 31
     little =
         let sent = h.sender.few tag in
         let went = few tag in
@@ -287,11 +287,11 @@ module _ (options : Options) (ends : Ends) (e : Endpoint) (queued : List Message
     own = direction_of_ends (ends.sends tag) (ends.gets tag)
 
     -- Nothing is read under the tag 0.
-    none_at_zero : tag ≡ 0 → with_key tag reading.reads ≡ []
+    pub none_at_zero : tag ≡ 0 → with_key tag reading.reads ≡ []
     none_at_zero nought = elim (h.receiver.begun tag) [ inl new ↦ h.receiver.were_read tag ∙ ap (λ (g : ReceivingEnd). g.read) new | inr had ↦ absurd (had.some nought) ]
 
     -- Nothing is read where the sender hasn't begun.
-    none_awaited : Awaits (ends.sends tag) → with_key tag reading.reads ≡ []
+    pub none_awaited : Awaits (ends.sends tag) → with_key tag reading.reads ≡ []
     none_awaited waits =
         let d = directions_deliver options (ends.firsts tag) options.max_receiver_window_buffer_size own (h.runs tag) (h.small tag) (little tag) (short tag) in
         h.receiver.were_read tag ∙ read_none (ends.sends tag).queued waits.queued (ends.gets tag).read d.places d.were_queued
@@ -321,7 +321,7 @@ module _ (options : Options) (ends : Ends) (e : Endpoint) (queued : List Message
       (sym (had.kind_is interleaves.0 interleaves.1 interleaves.2) ∙ interleaves.3) (h.numbered tag some anew)))
 
   -- Under the tag 0 no reset is performed, and none where the sender hasn't begun.
-  nothing_performed : (tag : ℕ) → (tag ≡ 0) ⊎ Awaits (ends.sends tag) → (ends.gets tag).performed ≡ []
+  pub nothing_performed : (tag : ℕ) → (tag ≡ 0) ⊎ Awaits (ends.sends tag) → (ends.gets tag).performed ≡ []
   nothing_performed tag (inl nought) = elim (h.receiver.begun tag) [ inl new ↦ ap (λ (g : ReceivingEnd). g.performed) new | inr had ↦ absurd (had.some nought) ]
   nothing_performed tag (inr waits) = none_performed options (ends.firsts tag) options.max_receiver_window_buffer_size (own tag) (h.runs tag) (ap (λ (a : Asking). a.requests) waits.asking)
 
@@ -373,7 +373,7 @@ module _ (options : Options) (ends : Ends) (e : Endpoint) (queued : List Message
   module _ (tag : ℕ) (only : IsOnlyOwn past tag) (interleaves : InterleavesUnder past tag) where
     -- what is known of the sender
     abbrev calls_with : (ℕ → ℕ → Bool) → (ℕ → ℕ → Bool) → List PreparedReset → ResetCalls
-    calls_with asks empties made = record { never = ends.calls.never; asks = asks; empties = empties; made = made }
+    calls_with asks empties made = record { never = ends.calls.never; asks = asks; empties = empties; made = made; in_turn = ends.calls.in_turn }
 
     abbrev ByUser : ResetCalls → Type 0
     ByUser calls = AreCutByUser calls options.max_receiver_window_buffer_size (ends.gets tag).performed (ends.sends tag).queued (with_key tag reading.reads)

@@ -223,7 +223,7 @@ module _ (ends : Ends) (e : Endpoint) (past : List Effect) (d : Endpoint) (their
       abbrev pub Standing : Bool → Type 0
       Standing true = IsInStep (requests_of ends w.pairs link.peer.tag) their_past transfer.reassembly.deferral × Compares (λ number newest. number ≡ newest)
       Standing false =
-          ((ends.sends link.peer.tag).queues.queue.is_interleaved ≡ false) ⊎ (IsInStep (requests_of ends w.pairs link.peer.tag) their_past transfer.reassembly.deferral × Compares (λ number newest. number ≢ newest))
+          ((requests_of ends w.pairs link.peer.tag).in_turn ≡ false) ⊎ (IsInStep (requests_of ends w.pairs link.peer.tag) their_past transfer.reassembly.deferral × Compares (λ number newest. number ≢ newest))
 
       pub newest_or_not : IsInStep (requests_of ends w.pairs link.peer.tag) their_past transfer.reassembly.deferral → Standing true ⊎ Standing false
       newest_or_not step = by_peers peers

@@ -27,7 +27,7 @@ use Rattle.dcsctp_delivery_sockets.specs.turns.ToldResets.{ReportsResets}
 use Rattle.dcsctp_delivery_sockets.specs.turns.Reporting.{IsReachedBetween, TurnReports, reports_on, reports_anew, reports_nothing, reports_nowhere}
 use Rattle.dcsctp_delivery_sockets.specs.turns.Asking.{own_of, AsksFit}
 use Rattle.dcsctp_delivery_sockets.specs.turns.Runs.{OpensAssociation}
-use Rattle.dcsctp_delivery_sockets.specs.associations.Ends.{WasTold, SendingEnd, ReceivingEnd, direction_of_ends, new_end, Ends, sender_key, HadPeer, Awaits, Sender, NewTag, HadTag, Receiver, unbegun_end, MetOrAlone, AreHeard, AreSeen, Between, sending_side, receiving_side}
+use Rattle.dcsctp_delivery_sockets.specs.associations.Ends.{WasReported, SendingEnd, ReceivingEnd, direction_of_ends, new_end, Ends, sender_key, HadPeer, Awaits, Sender, NewTag, HadTag, Receiver, unbegun_end, MetOrAlone, AreHeard, AreSeen, Between, sending_side, receiving_side}
 use Rattle.dcsctp_delivery_sockets.specs.associations.Reads.{Tags, tags_of, Reading, tags_or, reached_index, resets_after, with_key}
 use Rattle.dcsctp_delivery_sockets.proofs.associations.Growing.{set_all}
 use Rattle.dcsctp_delivery_sockets.proofs.associations.Growing.{set_three}
@@ -113,7 +113,7 @@ module _ (options : Options) (ends : Ends) (e : Endpoint) (queued : List Message
           | inl e' ↦ subst (MetOrAlone options (record ends { sends = ends.sends; gets = table_with tag got ends.gets; firsts = firsts }) past (after_effects o.effects their_past)) (sym e')
               (inr (subst (λ (n : ℕ). DirectionRun options n options.max_receiver_window_buffer_size (direction_of_ends (unbegun_end options) (table_with tag got ends.gets tag))) (sym here)
               (subst (λ (g : ReceivingEnd). DirectionRun options first options.max_receiver_window_buffer_size (direction_of_ends (unbegun_end options) g)) (sym (set_same tag got ends.gets))
-              (opened_by (unbegun_end options) (senders_begin options options first options.max_receiver_window_buffer_size (λ id. false) (λ id count. false) (λ id count. false))))))
+              (opened_by (unbegun_end options) (senders_begin options options first options.max_receiver_window_buffer_size (λ id. false) (λ id count. false) (λ id count. false) false)))))
           | inr ne ↦
               alone_later options ends (record ends { sends = ends.sends; gets = table_with tag got ends.gets; firsts = firsts }) past past their_past (after_effects o.effects their_past) (λ effect has. has) (after_within o.effects their_past) t
               (set_other tag t got ends.gets ne) (others t ne) (h.alone t)
@@ -148,7 +148,7 @@ module _ (options : Options) (ends : Ends) (e : Endpoint) (queued : List Message
               (set_all (λ t g. HasEntry report.reset (ends.gets t).performed → HasEntry report.reset g.performed) tag got ends.gets
               (λ was. absurd (subst (λ (g : ReceivingEnd). HasEntry report.reset g.performed) fresh was)) (λ t ne was. was)) (of_link_later o.effects their_past report.tags)
               (h.receiver.were_reset report (still_reported reading.last (reached_index d input o reading) reading.resets report o shows none_here has));
-          were_told = λ plainly. set_all (λ t g. (reset : PerformedReset) → HasEntry reset g.performed → WasTold (resets_after d input o reading) t reset) tag got ends.gets (λ reset has. absurd has)
+          were_told = λ plainly. set_all (λ t g. (reset : PerformedReset) → HasEntry reset g.performed → WasReported (resets_after d input o reading) t reset) tag got ends.gets (λ reset has. absurd has)
               (λ t ne reset has. still_told reading.last (reached_index d input o reading) o.events reading.resets t reset (h.receiver.were_told plainly t reset has));
           begun = λ t. elim (decide t tag) [
             | inl e' ↦ inr (subst (λ (n : ℕ). HadTag (after_effects o.effects their_past) n (firsts n)) (sym e') (subst (λ (n : ℕ). HadTag (after_effects o.effects their_past) tag n) (sym here) had_new))

@@ -2,7 +2,7 @@
 -- requests.
 use Rattle.dcsctp_spec_lemmas.specs.spec.association.Effect as effects
 use Rattle.std.proofs.Common.{◌≡◌, ◌≢◌, ℕ, ◌%◌, ◌^◌, Option, None, Some, List, ◌∷◌, refl, sym, ◌∙◌, ap, subst, arith, inl, inr}
-use Rattle.std.specs.Prelude.{◌⊎◌}
+use Rattle.std.specs.Prelude.{◌⊎◌, ◌||◌}
 use Rattle.dcsctp_spec_lemmas.specs.types.declared.association.Pair.{Pair}
 use Rattle.dcsctp_spec_lemmas.specs.spec.endpoint.Endpoint.{Endpoint}
 use Rattle.dcsctp_spec_lemmas.specs.spec.endpoint.Outcome.{Outcome}
@@ -126,7 +126,7 @@ module _ (ends : Ends) (e : Endpoint) (past : List Effect) (d : Endpoint) (their
     ]
 
     abbrev fresh : Requests
-    fresh = record { my = new.peer; first = new.peer.first_tsn; asking = (ends.sends t).asking; is_interleaved = (ends.sends t).queues.queue.is_interleaved }
+    fresh = record { my = new.peer; first = new.peer.first_tsn; asking = (ends.sends t).asking; in_turn = (ends.sends t).queues.queue.is_interleaved || ends.calls.in_turn }
 
     abbrev pub opened : Ends
     opened = record ends { sends = ends.sends; gets = gets; firsts = firsts }
@@ -136,12 +136,12 @@ module _ (ends : Ends) (e : Endpoint) (past : List Effect) (d : Endpoint) (their
         elim (decide tag t) [
           | inl at ↦
               ap (requests_of opened (table_with t new.peer w.pairs)) at
-              ∙ ap (λ (p : Pair). record { my = p; first = firsts t; asking = (ends.sends t).asking; is_interleaved = (ends.sends t).queues.queue.is_interleaved }) (set_same t new.peer w.pairs)
-              ∙ ap (λ (n : ℕ). record { my = new.peer; first = n; asking = (ends.sends t).asking; is_interleaved = (ends.sends t).queues.queue.is_interleaved }) first_is
+              ∙ ap (λ (p : Pair). record { my = p; first = firsts t; asking = (ends.sends t).asking; in_turn = (ends.sends t).queues.queue.is_interleaved || ends.calls.in_turn }) (set_same t new.peer w.pairs)
+              ∙ ap (λ (n : ℕ). record { my = new.peer; first = n; asking = (ends.sends t).asking; in_turn = (ends.sends t).queues.queue.is_interleaved || ends.calls.in_turn }) first_is
               ∙ sym (set_same t fresh (requests_of ends w.pairs)) ∙ ap (table_with t fresh (requests_of ends w.pairs)) (sym at)
           | inr ne ↦
-              ap (λ (p : Pair). record { my = p; first = firsts tag; asking = (ends.sends tag).asking; is_interleaved = (ends.sends tag).queues.queue.is_interleaved }) (set_other t tag new.peer w.pairs ne)
-              ∙ ap (λ (n : ℕ). record { my = w.pairs tag; first = n; asking = (ends.sends tag).asking; is_interleaved = (ends.sends tag).queues.queue.is_interleaved }) (others tag ne)
+              ap (λ (p : Pair). record { my = p; first = firsts tag; asking = (ends.sends tag).asking; in_turn = (ends.sends tag).queues.queue.is_interleaved || ends.calls.in_turn }) (set_other t tag new.peer w.pairs ne)
+              ∙ ap (λ (n : ℕ). record { my = w.pairs tag; first = n; asking = (ends.sends tag).asking; in_turn = (ends.sends tag).queues.queue.is_interleaved || ends.calls.in_turn }) (others tag ne)
               ∙ sym (set_other t tag fresh (requests_of ends w.pairs) ne)
         ]
 

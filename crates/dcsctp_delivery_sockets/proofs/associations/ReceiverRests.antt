@@ -27,7 +27,7 @@ use Rattle.dcsctp_spec_lemmas.specs.types.declared.association.Pair.{Pair}
 use Rattle.dcsctp_spec_runs.specs.Past.{WasPerformed}
 use Rattle.dcsctp_delivery_sockets.specs.turns.Actions.{peer_tag, IsCall}
 use Rattle.dcsctp_delivery_sockets.specs.turns.Asking.{own_of, SomeFit}
-use Rattle.dcsctp_delivery_sockets.specs.associations.Ends.{WasTold, ReceivingEnd, direction_of_ends, new_end, Ends, sender_key, HadTag, LeavesReady, unbegun_end, MetOrAlone, AreHeard, AreSeen, Between, sending_side, receiving_side}
+use Rattle.dcsctp_delivery_sockets.specs.associations.Ends.{WasReported, ReceivingEnd, direction_of_ends, new_end, Ends, sender_key, HadTag, LeavesReady, unbegun_end, MetOrAlone, AreHeard, AreSeen, Between, sending_side, receiving_side}
 use Rattle.dcsctp_delivery_sockets.specs.associations.Reads.{Tags, ReadMessage, Reading, tags_or, reached_index, resets_after, reading_after, tagged_after, and_first, with_key}
 use Rattle.dcsctp_delivery_sockets.proofs.associations.WhatIsLeft.{left_idle, left_taken}
 use Rattle.dcsctp_delivery_sockets.proofs.associations.WhatIsRead.{all_of_first, all_of_later, of_link_later, MayRead, reads_first, reads_none, may_read, first_own, first_other}
@@ -157,7 +157,7 @@ module _ (options : Options) (ends : Ends) (e : Endpoint) (queued : List Message
                   reset_stays ends.gets (table_with tag got ends.gets) their_past (after_effects o.effects their_past) report
                   (set_all (λ t g. HasEntry report.reset (ends.gets t).performed → HasEntry report.reset g.performed) tag got ends.gets (λ was. was) (λ t ne was. was)) (of_link_later o.effects their_past report.tags)
                   (h.receiver.were_reset report (still_reported reading.last (reached_index d input o reading) reading.resets report o shows no_performs has));
-              were_told = λ plainly. set_all (λ t g. (reset : PerformedReset) → HasEntry reset g.performed → WasTold (resets_after d input o reading) t reset) tag got ends.gets
+              were_told = λ plainly. set_all (λ t g. (reset : PerformedReset) → HasEntry reset g.performed → WasReported (resets_after d input o reading) t reset) tag got ends.gets
                   (λ reset has. still_told reading.last (reached_index d input o reading) o.events reading.resets tag reset (h.receiver.were_told plainly tag reset has))
                   (λ t ne reset has. still_told reading.last (reached_index d input o reading) o.events reading.resets t reset (h.receiver.were_told plainly t reset has));
               begun = λ t. elim (decide t tag) [

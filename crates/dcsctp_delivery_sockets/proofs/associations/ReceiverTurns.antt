@@ -1,6 +1,6 @@
 -- Each turn of the receiver.
 use Rattle.std.proofs.Common.{[], ◌++◌, ◌≡◌, ◌≢◌, ℕ, Bool, true, false, ◌<◌, ◌≤◌, ◌+◌, ◌-◌, ◌%◌, ◌^◌, Option, None, Some, List, length, arith, refl, sym, ◌∙◌, ap, subst, inl, inr}
-use Rattle.std.specs.Prelude.{◌⊎◌}
+use Rattle.std.specs.Prelude.{◌⊎◌, ◌||◌, Bool}
 use Rattle.dcsctp_spec_lemmas.specs.types.declared.options.Options.{Options}
 use Rattle.dcsctp_spec_lemmas.specs.types.Settings.{SameOptions}
 use Rattle.dcsctp_spec_lemmas.specs.spec.endpoint.Endpoint.{Endpoint}
@@ -40,7 +40,7 @@ use Rattle.dcsctp_delivery_sockets.specs.turns.Sides.{WasSent, receiving}
 use Rattle.dcsctp_delivery_sockets.specs.turns.Runs.{RecordsByTurn, reached_count, ReceiverTurns, receiver_goes_on, receiver_ends, receiver_begins, IdleTurns, idle_stays, idle_begins, taken_turn}
 use Rattle.dcsctp_delivery_sockets.proofs.turns.Runs.{receivers_go_on, receivers_begin}
 use Rattle.dcsctp_delivery_sockets.proofs.turns.Reporting.{turns_report}
-use Rattle.dcsctp_delivery_sockets.specs.associations.Ends.{WasTold, LeavesReady, ReceivingEnd, direction_of_ends, new_end, Ends, sender_key, HadBoth, NewTag, HadTag, IsCurrentEnd, WasReset, unbegun_end, MetOrAlone, AreHeard, AreSeen, Between, sending_side, receiving_side}
+use Rattle.dcsctp_delivery_sockets.specs.associations.Ends.{WasReported, LeavesReady, ReceivingEnd, direction_of_ends, new_end, Ends, sender_key, HadBoth, NewTag, HadTag, IsCurrentEnd, WasReset, unbegun_end, MetOrAlone, AreHeard, AreSeen, Between, sending_side, receiving_side}
 use Rattle.dcsctp_delivery_sockets.specs.associations.Reads.{Tags, tags_of, ReadMessage, ReportedReset, Reading, tags_or, reached_index, resets_after, reading_after, tagged_after, with_key}
 use Rattle.dcsctp_delivery_sockets.proofs.associations.WhatIsLeft.{goes_left, ends_left}
 use Rattle.dcsctp_delivery_sockets.proofs.associations.WhatIsReset.{still_told, told_now, performed_is_told, among_reported, reset_stays, reported_performed, performed_more, performed_none}
@@ -188,7 +188,7 @@ module _ (options : Options) (ends : Ends) (e : Endpoint) (queued : List Message
 
     -- What is performed in the turn is reported, without `follow_rfc`.
     told_so : (left : Transfer) → o.after.queues.transfer ≡ Some left → (performed : List PerformedReset) → RecordsByTurn input o (reached_count (read_after d input (ends.gets c.link.peer.tag).read) left) (ends.gets c.link.peer.tag).performed performed
-        → ReportsResets d input o → options.follow_rfc ≡ false → (reset : PerformedReset) → HasEntry reset performed → WasTold (resets_after d input o reading) c.link.peer.tag reset
+        → ReportsResets d input o → options.follow_rfc ≡ false → (reset : PerformedReset) → HasEntry reset performed → WasReported (resets_after d input o reading) c.link.peer.tag reset
     told_so left is performed records tells unruled reset has =
         elim (performed_is_told d input o (reached_count (read_after d input (ends.gets c.link.peer.tag).read) left) (ends.gets c.link.peer.tag).performed tells (ap (λ (x : Options). x.follow_rfc) same ∙ unruled) performed records reset has) [
           | inl before ↦ still_told reading.last (reached_index d input o reading) o.events reading.resets c.link.peer.tag reset (h.receiver.were_told unruled c.link.peer.tag reset before)
@@ -289,7 +289,7 @@ module _ (options : Options) (ends : Ends) (e : Endpoint) (queued : List Message
                   (own_read (tags_of c.link) d input transfer reading.reads there ∙ ap (read_after d input) (h.receiver.were_read tag))
                   (λ t ne. other_read (tags_of c.link) d input reading.reads t ne ∙ h.receiver.were_read t);
               were_reset = λ report has. reset_so left is performed records plainly report has;
-              were_told = λ unruled. set_all (λ t g. (reset : PerformedReset) → HasEntry reset g.performed → WasTold (resets_after d input o reading) t reset) tag got ends.gets (told_so left is performed records tells unruled)
+              were_told = λ unruled. set_all (λ t g. (reset : PerformedReset) → HasEntry reset g.performed → WasReported (resets_after d input o reading) t reset) tag got ends.gets (told_so left is performed records tells unruled)
                   (λ t ne reset has'. still_told reading.last (reached_index d input o reading) o.events reading.resets t reset (h.receiver.were_told unruled t reset has'));
               begun = λ t. elim (decide t tag) [
                 | inl e' ↦ inr (subst (λ (n : ℕ). HadTag (after_effects o.effects their_past) n (ends.firsts n)) (sym e') (tag_later o.effects their_past tag (ends.firsts tag) c.had))
@@ -428,7 +428,7 @@ module _ (options : Options) (ends : Ends) (e : Endpoint) (queued : List Message
               (direction_of_ends (ends.sends c.link.peer.tag) (ends.gets c.link.peer.tag)) (ends.firsts c.link.peer.tag) (h.runs c.link.peer.tag) refl sent few_asked knows step done
 
       turn_goes : StandsSo (requests_of ends w.pairs c.link.peer.tag) their_past transfer.reassembly.deferral → Turned
-      turn_goes (plain kind some) = by_turn false (λ left is. inl kind) (goes_known false (inl kind))
+      turn_goes (plain kind some) = by_turn false (λ left is. inl kind) (goes_known false (inl (ap (λ (b : Bool). (ends.sends c.link.peer.tag).queues.queue.is_interleaved || b) (h.dropping c.link.peer.tag).in_turn ∙ kind)))
       turn_goes (in_step step) = by_left o.after.queues.transfer refl
         where
           by_left : (found : Option Transfer) → o.after.queues.transfer ≡ found → Turned

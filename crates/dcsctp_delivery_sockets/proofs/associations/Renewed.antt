@@ -39,7 +39,7 @@ module _ (r : Requests) (their_past : List Effect) (a : (r.asking ≡ nothing_as
         some_performed = λ interleaved top rest same. one_was interleaved top rest same;
       }
     where
-      one_was : r.is_interleaved ≡ true → (top : BegunReset) (rest : List BegunReset) → (renewed number newest r).asking.requests ≡ top ∷ rest
+      one_was : r.in_turn ≡ true → (top : BegunReset) (rest : List BegunReset) → (renewed number newest r).asking.requests ≡ top ∷ rest
           → ((n : ℕ) × WasPerformed r.my n their_past) ⊎ WantFrom 0 top.reset (renewed number newest r).asking.requests
       one_was interleaved top rest same =
           elim a [
@@ -88,7 +88,7 @@ numbered_before first [] requests numbers = numbers
 numbered_before first (begun ∷ more) requests numbers = numbered_before first more requests numbers.1
 
 -- If the newest was performed, that is known.
-pub known_newest : (r : Requests) → length r.asking.requests < 2 ^ 32 - 1 → (newest : BegunReset) (earlier : List BegunReset) → r.asking.requests ≡ newest ∷ earlier → r.is_interleaved ≡ true
+pub known_newest : (r : Requests) → length r.asking.requests < 2 ^ 32 - 1 → (newest : BegunReset) (earlier : List BegunReset) → r.asking.requests ≡ newest ∷ earlier → r.in_turn ≡ true
     → IsRequestNumber r (request_numbered r.first (length earlier)) → r.asking.is_performed ≡ true
 known_newest r few newest earlier is interleaved at =
     let long : length r.asking.requests ≡ suc (length earlier) = ap (λ (l : List BegunReset). length l) is in

@@ -1,4 +1,5 @@
 -- A turn of the sender, as what becomes of its requests.
+use Rattle.std.specs.Prelude.{◌||◌, Bool}
 use Rattle.dcsctp_spec_lemmas.specs.spec.association.Effect as effects
 use Rattle.std.proofs.Common.{◌≡◌, ◌≢◌, ℕ, suc, Bool, true, false, ◌<◌, ◌≤◌, ◌-◌, ◌^◌, Option, None, Some, List, [], ◌∷◌, length, refl, sym, ◌∙◌, ap, subst, inl, inr, arith}
 use Rattle.dcsctp_spec_lemmas.specs.types.declared.association.Pair.{Pair}
@@ -76,7 +77,7 @@ newest_is first number found own asking newest earlier is outstanding fits reque
 -- ---- a request ends
 
 module _ (requests : ℕ → Requests) (link : AssociationIdentity) (past : List Effect) (theirs : Option AssociationIdentity) (their_past : List Effect) (waits : Option DeferralModel) (h : AnswersRequests requests (Some link) past theirs their_past waits)
-    (e : Endpoint) (input : Input) (o : Outcome) (linked : identity_of_core e.core ≡ Some link) (kind : (requests link.my.tag).is_interleaved ≡ e.queues.queue.is_interleaved)
+    (e : Endpoint) (input : Input) (o : Outcome) (linked : identity_of_core e.core ≡ Some link) (in_turn : Bool) (kind : (requests link.my.tag).in_turn ≡ (e.queues.queue.is_interleaved || in_turn))
     (fits : AsksFit (requests link.my.tag).first (own_of e) (requests link.my.tag).asking) (few : length (requests link.my.tag).asking.requests < 2 ^ 32 - 1) (completes_so : CompletesPerformed their_past o)
     (may : IsCall input) (turn : Turn e input o) where
   abbrev r : Requests
@@ -119,13 +120,13 @@ module _ (requests : ℕ → Requests) (link : AssociationIdentity) (past : List
       let out : OutIs (Some found.1) own.own.again r.asking = subst (λ (n : Option ℕ). OutIs n own.own.again r.asking) own.outstanding kept.out in
       (record { number = found.1; reset = own.own.again }, out.earlier, out.is)
 
-  pub ends_performed : EndsPerformed e o (requests link.my.tag).asking
+  pub ends_performed : EndsPerformed in_turn e o (requests link.my.tag).asking
   ends_performed done interleaved =
       let out = some_out done in
       newest_known requests link past theirs their_past waits h few (kind ∙ interleaved) out.0 out.1 out.2
       (subst (λ (n : ℕ). WasPerformed link.my n their_past) (newest_number r.first out.0 out.1 r.asking.requests out.2 numbers) (performed_newest done out.0 out.1 out.2))
 
-  pub may_go : RefusesNone e o → (between : Asking) → IsBetween o.effects (requests link.my.tag).asking between → MayGo (requests link.my.tag) their_past between
+  pub may_go : RefusesNone in_turn e o → (between : Asking) → IsBetween o.effects (requests link.my.tag).asking between → MayGo (requests link.my.tag) their_past between
   may_go none _ as_it_was = ends_so _ asked.as_it_was
   may_go none _ (once_performed done) =
       ends_so _ (asked.has_ended (λ interleaved newest earlier is. subst (λ (p : Pair). WasPerformed p newest.number their_past) (sym (h.mine_held link refl).1) (performed_newest done newest earlier is)))
@@ -142,24 +143,24 @@ may_begin first core request between asking link linked grows fits few =
 -- ---- what both ends have
 
 -- what one end has of the requests
-abbrev of_end : ℕ → Pair → SendingEnd → Requests
-of_end first my end = record { my = my; first = first; asking = end.asking; is_interleaved = end.queues.queue.is_interleaved }
+abbrev of_end : Bool → ℕ → Pair → SendingEnd → Requests
+of_end in_turn first my end = record { my = my; first = first; asking = end.asking; in_turn = end.queues.queue.is_interleaved || in_turn }
 
 -- Where another end takes its place, others are the same.
-pub set_ends : (ends : Ends) (pairs : ℕ → Pair) (key : ℕ) (end : SendingEnd) (gets : ℕ → ReceivingEnd) (firsts : ℕ → ℕ) (others : ℕ → Pair) (new : Requests) → of_end (firsts key) (others key) end ≡ new
+pub set_ends : (ends : Ends) (pairs : ℕ → Pair) (key : ℕ) (end : SendingEnd) (gets : ℕ → ReceivingEnd) (firsts : ℕ → ℕ) (others : ℕ → Pair) (new : Requests) → of_end ends.calls.in_turn (firsts key) (others key) end ≡ new
     → ((tag : ℕ) → tag ≢ key → (firsts tag ≡ ends.firsts tag) × (others tag ≡ pairs tag)) → (tag : ℕ)
     → requests_of (record ends { sends = table_with key end ends.sends; gets = gets; firsts = firsts }) others tag ≡ table_with key new (requests_of ends pairs) tag
 set_ends ends pairs key end gets firsts others new is same tag =
     elim (decide tag key) [
       | inl e ↦
-          ap (λ (n : ℕ). of_end (firsts n) (others n) (table_with key end ends.sends n)) e ∙ ap (of_end (firsts key) (others key)) (set_same key end ends.sends) ∙ is
+          ap (λ (n : ℕ). of_end ends.calls.in_turn (firsts n) (others n) (table_with key end ends.sends n)) e ∙ ap (of_end ends.calls.in_turn (firsts key) (others key)) (set_same key end ends.sends) ∙ is
           ∙ sym (set_same key new (requests_of ends pairs)) ∙ ap (table_with key new (requests_of ends pairs)) (sym e)
       | inr ne ↦
-          ap (of_end (firsts tag) (others tag)) (set_other key tag end ends.sends ne) ∙ ap (λ (n : ℕ). of_end n (others tag) (ends.sends tag)) (same tag ne).0
-          ∙ ap (λ (m : Pair). of_end (ends.firsts tag) m (ends.sends tag)) (same tag ne).1 ∙ sym (set_other key tag new (requests_of ends pairs) ne)
+          ap (of_end ends.calls.in_turn (firsts tag) (others tag)) (set_other key tag end ends.sends ne) ∙ ap (λ (n : ℕ). of_end ends.calls.in_turn n (others tag) (ends.sends tag)) (same tag ne).0
+          ∙ ap (λ (m : Pair). of_end ends.calls.in_turn (ends.firsts tag) m (ends.sends tag)) (same tag ne).1 ∙ sym (set_other key tag new (requests_of ends pairs) ne)
     ]
 
-pub set_end : (ends : Ends) (pairs : ℕ → Pair) (key : ℕ) (end : SendingEnd) (new : Requests) → of_end (ends.firsts key) (pairs key) end ≡ new → (tag : ℕ)
+pub set_end : (ends : Ends) (pairs : ℕ → Pair) (key : ℕ) (end : SendingEnd) (new : Requests) → of_end ends.calls.in_turn (ends.firsts key) (pairs key) end ≡ new → (tag : ℕ)
     → requests_of (record ends { sends = table_with key end ends.sends }) pairs tag ≡ table_with key new (requests_of ends pairs) tag
 set_end ends pairs key end new is tag = set_ends ends pairs key end ends.gets ends.firsts pairs new is (λ t ne. (refl, refl)) tag
 
@@ -182,10 +183,10 @@ module _ (ends : Ends) (e : Endpoint) (past : List Effect) (d : Endpoint) (their
     kind_is : end.queues.queue.is_interleaved ≡ (ends.sends link.my.tag).queues.queue.is_interleaved
     kind_is = kind ∙ sym (ap (λ (t : ℕ). (ends.sends t).queues.queue.is_interleaved) (sym key_is) ∙ ap (λ (b : EndpointQueues). b.queue.is_interleaved) key_below)
 
-    here : of_end (ends.firsts link.my.tag) (w.pairs link.my.tag) end ≡ record (requests_of ends w.pairs link.my.tag) { asking = asking }
+    here : of_end ends.calls.in_turn (ends.firsts link.my.tag) (w.pairs link.my.tag) end ≡ record (requests_of ends w.pairs link.my.tag) { asking = asking }
     here =
-        ap (λ (a : Asking). record (of_end (ends.firsts link.my.tag) (w.pairs link.my.tag) end) { asking = a }) is
-        ∙ ap (λ (b : Bool). record (requests_of ends w.pairs link.my.tag) { asking = asking; is_interleaved = b }) kind_is
+        ap (λ (a : Asking). record (of_end ends.calls.in_turn (ends.firsts link.my.tag) (w.pairs link.my.tag) end) { asking = a }) is
+        ∙ ap (λ (b : Bool). record (requests_of ends w.pairs link.my.tag) { asking = asking; in_turn = b || ends.calls.in_turn }) kind_is
 
     answers_there : AnswersRequests (requests_of ends w.pairs) (Some link) past (identity_of_core d.core) their_past (waiting_deferral d.queues.transfer)
     answers_there = subst (λ (l : Option AssociationIdentity). AnswersRequests (requests_of ends w.pairs) l past (identity_of_core d.core) their_past (waiting_deferral d.queues.transfer)) linked w.answers
@@ -203,18 +204,18 @@ module _ (ends : Ends) (e : Endpoint) (past : List Effect) (d : Endpoint) (their
       → AnswersRequests (requests_of (record ends { sends = table_with 0 zero (table_with (sender_key e.core) end ends.sends) }) w.pairs) None later (identity_of_core d.core) their_past (waiting_deferral d.queues.transfer)
   closes_answers mine later zero answers =
       same_requests (requests_of (record ends { sends = table_with 0 zero (table_with (sender_key e.core) end ends.sends) }) w.pairs)
-      (table_with 0 (of_end (ends.firsts 0) (w.pairs 0) zero) (requests_of (record ends { sends = table_with (sender_key e.core) end ends.sends }) w.pairs)) None later (identity_of_core d.core) their_past (waiting_deferral d.queues.transfer)
+      (table_with 0 (of_end ends.calls.in_turn (ends.firsts 0) (w.pairs 0) zero) (requests_of (record ends { sends = table_with (sender_key e.core) end ends.sends }) w.pairs)) None later (identity_of_core d.core) their_past (waiting_deferral d.queues.transfer)
       (set_end (record ends { sends = table_with (sender_key e.core) end ends.sends }) w.pairs 0 zero _ refl)
-      (closes_on (requests_of (record ends { sends = table_with (sender_key e.core) end ends.sends }) w.pairs) mine later (identity_of_core d.core) their_past (waiting_deferral d.queues.transfer) answers (of_end (ends.firsts 0) (w.pairs 0) zero) later (λ effect has. has))
+      (closes_on (requests_of (record ends { sends = table_with (sender_key e.core) end ends.sends }) w.pairs) mine later (identity_of_core d.core) their_past (waiting_deferral d.queues.transfer) answers (of_end ends.calls.in_turn (ends.firsts 0) (w.pairs 0) zero) later (λ effect has. has))
 
   -- So it is where there is no association.
   pub idle_answers : identity_of_core e.core ≡ None → (later : List Effect) → ((effect : Effect) → HasEffect effect past → HasEffect effect later)
       → AnswersRequests (requests_of (record ends { sends = table_with (sender_key e.core) end ends.sends }) w.pairs) None later (identity_of_core d.core) their_past (waiting_deferral d.queues.transfer)
   idle_answers none later grows =
       subst (λ (k : ℕ). AnswersRequests (requests_of (record ends { sends = table_with k end ends.sends }) w.pairs) None later (identity_of_core d.core) their_past (waiting_deferral d.queues.transfer)) (sym (no_key e.core none))
-      (same_requests (requests_of (record ends { sends = table_with 0 end ends.sends }) w.pairs) (table_with 0 (of_end (ends.firsts 0) (w.pairs 0) end) (requests_of ends w.pairs)) None later (identity_of_core d.core) their_past (waiting_deferral d.queues.transfer)
+      (same_requests (requests_of (record ends { sends = table_with 0 end ends.sends }) w.pairs) (table_with 0 (of_end ends.calls.in_turn (ends.firsts 0) (w.pairs 0) end) (requests_of ends w.pairs)) None later (identity_of_core d.core) their_past (waiting_deferral d.queues.transfer)
       (set_end ends w.pairs 0 end _ refl)
-      (closes_on (requests_of ends w.pairs) (identity_of_core e.core) past (identity_of_core d.core) their_past (waiting_deferral d.queues.transfer) w.answers (of_end (ends.firsts 0) (w.pairs 0) end) later grows))
+      (closes_on (requests_of ends w.pairs) (identity_of_core e.core) past (identity_of_core d.core) their_past (waiting_deferral d.queues.transfer) w.answers (of_end ends.calls.in_turn (ends.firsts 0) (w.pairs 0) end) later grows))
 
 -- ---- a turn in which an association begins
 
@@ -225,10 +226,10 @@ pub begins_answers : (ends : Ends) (e : Endpoint) (past : List Effect) (d : Endp
     → AnswersRequests (requests_of (record ends { sends = table_with new.my.tag end ends.sends; gets = gets; firsts = firsts }) (table_with new.my.tag new.my w.pairs)) (Some new) later (identity_of_core d.core) their_past (waiting_deferral d.queues.transfer)
 begins_answers ends e past d their_past w new some match nothing end gets firsts first others begins crossed later grows held =
     same_requests (requests_of (record ends { sends = table_with new.my.tag end ends.sends; gets = gets; firsts = firsts }) (table_with new.my.tag new.my w.pairs))
-    (table_with new.my.tag (fresh_requests new end.queues.queue.is_interleaved end.asking) (requests_of ends w.pairs)) (Some new) later (identity_of_core d.core) their_past (waiting_deferral d.queues.transfer)
-    (set_ends ends w.pairs new.my.tag end gets firsts (table_with new.my.tag new.my w.pairs) (fresh_requests new end.queues.queue.is_interleaved end.asking) here
+    (table_with new.my.tag (fresh_requests new (end.queues.queue.is_interleaved || ends.calls.in_turn) end.asking) (requests_of ends w.pairs)) (Some new) later (identity_of_core d.core) their_past (waiting_deferral d.queues.transfer)
+    (set_ends ends w.pairs new.my.tag end gets firsts (table_with new.my.tag new.my w.pairs) (fresh_requests new (end.queues.queue.is_interleaved || ends.calls.in_turn) end.asking) here
     (λ tag ne. (others tag ne, set_other new.my.tag tag new.my w.pairs ne)))
-    (opens_on (requests_of ends w.pairs) (identity_of_core e.core) past (identity_of_core d.core) their_past (waiting_deferral d.queues.transfer) w.answers new some nothing match end.queues.queue.is_interleaved end.asking begins crossed later grows held)
+    (opens_on (requests_of ends w.pairs) (identity_of_core e.core) past (identity_of_core d.core) their_past (waiting_deferral d.queues.transfer) w.answers new some nothing match (end.queues.queue.is_interleaved || ends.calls.in_turn) end.asking begins crossed later grows held)
   where
-    here : of_end (firsts new.my.tag) (table_with new.my.tag new.my w.pairs new.my.tag) end ≡ fresh_requests new end.queues.queue.is_interleaved end.asking
-    here = ap (λ (n : ℕ). of_end n (table_with new.my.tag new.my w.pairs new.my.tag) end) first ∙ ap (λ (m : Pair). of_end new.my.first_tsn m end) (set_same new.my.tag new.my w.pairs)
+    here : of_end ends.calls.in_turn (firsts new.my.tag) (table_with new.my.tag new.my w.pairs new.my.tag) end ≡ fresh_requests new (end.queues.queue.is_interleaved || ends.calls.in_turn) end.asking
+    here = ap (λ (n : ℕ). of_end ends.calls.in_turn n (table_with new.my.tag new.my w.pairs new.my.tag) end) first ∙ ap (λ (m : Pair). of_end ends.calls.in_turn new.my.first_tsn m end) (set_same new.my.tag new.my w.pairs)

@@ -42,7 +42,7 @@ module _ (requests : ℕ → Requests) (link : AssociationIdentity) (past : List
   is_placed number has = h.performed link.my.tag (is_joined number has) number (subst (λ (p : Pair). WasPerformed p number their_past) (sym mine) has)
 
   -- If the newest was performed, that is known.
-  pub newest_known : length r.asking.requests < 2 ^ 32 - 1 → r.is_interleaved ≡ true → (newest : BegunReset) (earlier : List BegunReset) → r.asking.requests ≡ newest ∷ earlier
+  pub newest_known : length r.asking.requests < 2 ^ 32 - 1 → r.in_turn ≡ true → (newest : BegunReset) (earlier : List BegunReset) → r.asking.requests ≡ newest ∷ earlier
       → WasPerformed link.my (request_numbered r.first (length earlier)) their_past → r.asking.is_performed ≡ true
   newest_known few interleaved newest earlier is has = known_newest (requests link.my.tag) few newest earlier is interleaved (is_placed (request_numbered r.first (length earlier)) has)
 

@@ -31,7 +31,7 @@ use Rattle.dcsctp_delivery_sockets.proofs.turns.Beginnings.{begun_at_zero}
 use Rattle.dcsctp_delivery_sockets.proofs.turns.Runs.{senders_begin}
 use Rattle.dcsctp_delivery_sockets.proofs.turns.Unbegun.{unbegun_begins_at_zero, unbegun_begins_waiting}
 use Rattle.dcsctp_delivery_sockets.proofs.associations.Held.{never_held, none_held, some_held}
-use Rattle.dcsctp_delivery_sockets.specs.associations.Ends.{WasTold, SendingEnd, ReceivingEnd, direction_of_ends, new_end, Ends, HadPeer, HadKind, HadBoth, sender_key, unbegun_end, MetOrAlone, KeepsThese, KeepsOnlyThese, NumbersFromZero, Awaits, Sender, NewPeer, HadTag, IsCurrentEnd, Receiver, AreSeen, Between, IsOnlyOwn, IsBefore, sending_side, receiving_side}
+use Rattle.dcsctp_delivery_sockets.specs.associations.Ends.{WasReported, SendingEnd, ReceivingEnd, direction_of_ends, new_end, Ends, HadPeer, HadKind, HadBoth, sender_key, unbegun_end, MetOrAlone, KeepsThese, KeepsOnlyThese, NumbersFromZero, Awaits, Sender, NewPeer, HadTag, IsCurrentEnd, Receiver, AreSeen, Between, IsOnlyOwn, IsBefore, sending_side, receiving_side}
 use Rattle.dcsctp_delivery_directions.proofs.directions.RequestCounts.{requests_more_to, requests_are_sent}
 use Rattle.dcsctp_delivery_sockets.specs.associations.Answered.{AnswersRequests, requests_of, waiting_deferral, AreAnswered}
 use Rattle.dcsctp_delivery_sockets.proofs.associations.AskedOn.{MayBegin}
@@ -94,7 +94,7 @@ receiver_renewed options ends sends latest former d past reading tag first r fre
           reset_stays ends.gets (table_with tag (new_end options first) ends.gets) past past report
           (set_all (λ t g. HasEntry report.reset (ends.gets t).performed → HasEntry report.reset g.performed) tag (new_end options first) ends.gets
           (λ was. absurd (subst (λ (g : ReceivingEnd). HasEntry report.reset g.performed) fresh was)) (λ t ne was. was)) (λ of. of) (r.were_reset report has);
-      were_told = λ plainly. set_all (λ t g. (reset : PerformedReset) → HasEntry reset g.performed → WasTold reading.resets t reset) tag (new_end options first) ends.gets (λ reset has. absurd has) (λ t ne. r.were_told plainly t);
+      were_told = λ plainly. set_all (λ t g. (reset : PerformedReset) → HasEntry reset g.performed → WasReported reading.resets t reset) tag (new_end options first) ends.gets (λ reset has. absurd has) (λ t ne. r.were_told plainly t);
       begun = λ t. elim (decide t tag) [
         | inl e ↦
             inl (subst (λ (n : ℕ). table_with tag (new_end options first) ends.gets n ≡ new_end options (table_with tag first ends.firsts n)) (sym e)
@@ -174,7 +174,7 @@ module _ (options : Options) (ends : Ends) (e : Endpoint) (queued : List Message
 
   -- Do the numbers of each stream begin at 0, and does it begin with all that was queued?
   abbrev pub begins_anew : Beginning
-  begins_anew = record { from_zero = e.options.follow_rfc || never_held past; has_all = never_held past; keeps = λ id. ends.calls.never id && never_held past; asks = ends.calls.asks; empties = ends.calls.empties }
+  begins_anew = record { from_zero = e.options.follow_rfc || never_held past; has_all = never_held past; keeps = λ id. ends.calls.never id && never_held past; asks = ends.calls.asks; empties = ends.calls.empties; in_turn = ends.calls.in_turn }
 
   -- So it does.
   pub begins_so : BeginsAs begins_anew marks begun.queue
@@ -229,6 +229,7 @@ module _ (options : Options) (ends : Ends) (e : Endpoint) (queued : List Message
         dropped = λ id resets. ap (λ (b : Beginning). b.keeps id) here ∙ ap (λ (b : Bool). b && never_held past) resets;
         asks = ap (λ (b : Beginning). b.asks) here;
         empties = ap (λ (b : Beginning). b.empties) here;
+        in_turn = ap (λ (b : Beginning). b.in_turn) here;
       }) (λ tag ne. h.dropping tag)
 
   -- So they do in the new association, if it is the only one or the sender follows the RFC, and in each other as before.
@@ -368,9 +369,9 @@ module _ (options : Options) (ends : Ends) (e : Endpoint) (queued : List Message
       let new_alone : DirectionRun options (firsts to) options.max_receiver_window_buffer_size (direction_of_ends (unbegun_end options) (gets to)) =
       subst (λ (n : ℕ). DirectionRun options n options.max_receiver_window_buffer_size (direction_of_ends (unbegun_end options) (gets to))) (sym (set_same to first ends.firsts))
       (subst (λ (g : ReceivingEnd). DirectionRun options first options.max_receiver_window_buffer_size (direction_of_ends (unbegun_end options) g)) (sym (set_same to (new_end options first) ends.gets))
-      (senders_begin options options first options.max_receiver_window_buffer_size (λ id. false) (λ id count. false) (λ id count. false))) in
+      (senders_begin options options first options.max_receiver_window_buffer_size (λ id. false) (λ id count. false) (λ id count. false) false)) in
       let run = later options options.max_receiver_window_buffer_size
-      (new_direction options first options.max_receiver_window_buffer_size [] (record { queue = empty_queue options; transfer = None }) 0 [] (record { from_zero = true; has_all = true; keeps = λ id. false; asks = λ id count. false; empties = λ id count. false })) marks begins_anew shown fit (senders_begin options options first options.max_receiver_window_buffer_size (λ id. false) (λ id count. false) (λ id count. false))
+      (new_direction options first options.max_receiver_window_buffer_size [] (record { queue = empty_queue options; transfer = None }) 0 [] (record { from_zero = true; has_all = true; keeps = λ id. false; asks = λ id count. false; empties = λ id count. false; in_turn = false })) marks begins_anew shown fit (senders_begin options options first options.max_receiver_window_buffer_size (λ id. false) (λ id count. false) (λ id count. false) false)
       (record { queued = refl; sent = refl; acknowledged = refl; transfer = refl; asking = refl }) begins_so in
       let end : SendingEnd = renewed_end ends (sender_key e.core) (peer_tag e.core) e.queues queued past packets h.sender o.effects to begun.held.peer.tag o.after.queues run.0 ps run.1 begins_anew gets firsts None in
       let ends' : Ends = renewed_ends ends (sender_key e.core) (peer_tag e.core) e.queues queued past packets h.sender o.effects to begun.held.peer.tag o.after.queues run.0 ps run.1 begins_anew gets firsts None in

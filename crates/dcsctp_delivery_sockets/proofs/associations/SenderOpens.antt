@@ -20,7 +20,7 @@ still_held past later grows r tag (inr held) = inr (record { link = held.link; h
 
 -- those of an association that begins
 abbrev pub fresh_requests : AssociationIdentity → Bool → Asking → Requests
-fresh_requests new is_interleaved asking = record { my = new.my; first = new.my.first_tsn; asking = asking; is_interleaved = is_interleaved }
+fresh_requests new in_turn asking = record { my = new.my; first = new.my.first_tsn; asking = asking; in_turn = in_turn }
 
 module _ (requests : ℕ → Requests) (mine : Option AssociationIdentity) (past : List Effect) (theirs : Option AssociationIdentity) (their_past : List Effect) (waits : Option DeferralModel) (h : AnswersRequests requests mine past theirs their_past waits) (new : AssociationIdentity)
     (some : new.my.tag ≢ 0) (nothing : (requests new.my.tag).asking ≡ nothing_asked)

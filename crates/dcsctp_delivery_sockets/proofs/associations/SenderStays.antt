@@ -70,7 +70,7 @@ keeps_these : (calls : ResetCalls) (made : List PreparedReset) (beginning : Begi
 keeps_these calls made beginning k = record { whole = k.whole; keeps = k.keeps }
 
 keeps_only : (calls : ResetCalls) (made : List PreparedReset) (beginning : Beginning) → KeepsOnlyThese calls beginning → KeepsOnlyThese (record calls { made = made }) beginning
-keeps_only calls made beginning k = record { dropped = k.dropped; asks = k.asks; empties = k.empties }
+keeps_only calls made beginning k = record { dropped = k.dropped; asks = k.asks; empties = k.empties; in_turn = k.in_turn }
 
 unbegun_marked : (calls : ResetCalls) (count : ℕ) (marking : List Stream) (queued : List Message) (e : Endpoint) → IsUnbegun calls queued e → IsUnbegun calls (all_marked count marking queued) e
 unbegun_marked calls count marking queued e u =
@@ -199,7 +199,7 @@ module _ (options : Options) (ends : Ends) (e : Endpoint) (queued : List Message
       → last.queue.is_interleaved ≡ e.queues.queue.is_interleaved → Ends
   ended_ends none_began last acknowledged asking addressed kind =
       renewed_ends (grown_ends ends (sender_key e.core) (peer_tag e.core) e.queues queued past packets h.sender o.effects more last acknowledged (packets_of_events o.events) asking (ends.sends (sender_key e.core)).prepared ends.calls) (sender_key e.core) (peer_tag e.core) last (more ++ queued) (after_effects o.effects past)
-      (packets ++ packets_of_events o.events) (grown ends (sender_key e.core) (peer_tag e.core) e.queues queued past packets h.sender o.effects more last acknowledged (packets_of_events o.events) asking (ends.sends (sender_key e.core)).prepared ends.calls addressed kind none_began) [] 0 0 o.after.queues 0 [] nothing_asked (record { from_zero = false; has_all = false; keeps = λ id. false; asks = ends.calls.asks; empties = ends.calls.empties }) ends.gets ends.firsts None
+      (packets ++ packets_of_events o.events) (grown ends (sender_key e.core) (peer_tag e.core) e.queues queued past packets h.sender o.effects more last acknowledged (packets_of_events o.events) asking (ends.sends (sender_key e.core)).prepared ends.calls addressed kind none_began) [] 0 0 o.after.queues 0 [] nothing_asked (record { from_zero = false; has_all = false; keeps = λ id. false; asks = ends.calls.asks; empties = ends.calls.empties; in_turn = ends.calls.in_turn }) ends.gets ends.firsts None
 
   pub ended : (seen : List (Event Emission)) → AreSeen ends d their_past seen → AreAnswered ends e past d their_past → (none_began : (each : AssociationIdentity) → HasEffect (holds each) (after_effects o.effects past) → HasEffect (holds each) past) → o.after.options.follow_rfc ≡ e.options.follow_rfc → TakesTurnsByOption o.after → (NeverHeld (after_effects o.effects past) → IsUnbegun ends.calls (queued_after e input (ends.sends (sender_key e.core)).queued) o.after) → identity_of_core o.after.core ≡ None → (addressed : AreAddressed (peer_tag e.core) (packets_of_events o.events)) → (last : EndpointQueues) → (kind : last.queue.is_interleaved ≡ e.queues.queue.is_interleaved) → o.after.queues ≡ record last { transfer = None }
       → QueueWaits (queued_after e input (ends.sends (sender_key e.core)).queued) last.queue → AllByRecursion Fits (queued_after e input (ends.sends (sender_key e.core)).queued) → (acknowledged : ℕ) (asking : Asking) → RequestsStay (ends.sends (sender_key e.core)).asking asking
@@ -213,11 +213,11 @@ module _ (options : Options) (ends : Ends) (e : Endpoint) (queued : List Message
       let end : SendingEnd = grown_end ends key (peer_tag e.core) e.queues queued past packets h.sender o.effects more last acknowledged ps asking (ends.sends (sender_key e.core)).prepared ends.calls in
       let middle : Ends = grown_ends ends key (peer_tag e.core) e.queues queued past packets h.sender o.effects more last acknowledged ps asking (ends.sends (sender_key e.core)).prepared ends.calls in
       let first : Sender middle key (peer_tag e.core) last (more ++ queued) (after_effects o.effects past) (packets ++ ps) = grown ends key (peer_tag e.core) e.queues queued past packets h.sender o.effects more last acknowledged ps asking (ends.sends (sender_key e.core)).prepared ends.calls addressed kind none_began in
-      let marked : List Message = marked_queue middle key (peer_tag e.core) last (more ++ queued) (after_effects o.effects past) (packets ++ ps) first [] 0 0 o.after.queues 0 [] nothing_asked (record { from_zero = false; has_all = false; keeps = λ id. false; asks = ends.calls.asks; empties = ends.calls.empties }) ends.gets ends.firsts None in
-      let later : Ends = renewed_ends middle key (peer_tag e.core) last (more ++ queued) (after_effects o.effects past) (packets ++ ps) first [] 0 0 o.after.queues 0 [] nothing_asked (record { from_zero = false; has_all = false; keeps = λ id. false; asks = ends.calls.asks; empties = ends.calls.empties }) ends.gets ends.firsts None in
-      let new : SendingEnd = renewed_end middle key (peer_tag e.core) last (more ++ queued) (after_effects o.effects past) (packets ++ ps) first [] 0 0 o.after.queues 0 [] nothing_asked (record { from_zero = false; has_all = false; keeps = λ id. false; asks = ends.calls.asks; empties = ends.calls.empties }) ends.gets ends.firsts None in
+      let marked : List Message = marked_queue middle key (peer_tag e.core) last (more ++ queued) (after_effects o.effects past) (packets ++ ps) first [] 0 0 o.after.queues 0 [] nothing_asked (record { from_zero = false; has_all = false; keeps = λ id. false; asks = ends.calls.asks; empties = ends.calls.empties; in_turn = ends.calls.in_turn }) ends.gets ends.firsts None in
+      let later : Ends = renewed_ends middle key (peer_tag e.core) last (more ++ queued) (after_effects o.effects past) (packets ++ ps) first [] 0 0 o.after.queues 0 [] nothing_asked (record { from_zero = false; has_all = false; keeps = λ id. false; asks = ends.calls.asks; empties = ends.calls.empties; in_turn = ends.calls.in_turn }) ends.gets ends.firsts None in
+      let new : SendingEnd = renewed_end middle key (peer_tag e.core) last (more ++ queued) (after_effects o.effects past) (packets ++ ps) first [] 0 0 o.after.queues 0 [] nothing_asked (record { from_zero = false; has_all = false; keeps = λ id. false; asks = ends.calls.asks; empties = ends.calls.empties; in_turn = ends.calls.in_turn }) ends.gets ends.firsts None in
       let second : Sender later 0 0 o.after.queues (more ++ queued) (after_effects o.effects past) ((packets ++ ps) ++ []) =
-      renewed middle key (peer_tag e.core) last (more ++ queued) (after_effects o.effects past) (packets ++ ps) first [] 0 0 o.after.queues 0 [] nothing_asked (record { from_zero = false; has_all = false; keeps = λ id. false; asks = ends.calls.asks; empties = ends.calls.empties }) ends.gets ends.firsts None (λ each has same. absurd ((first.known each has).0 same)) (none_former (ends.former 0) refl) (λ some. absurd (some refl)) (λ tag ne. refl) tt (λ some. absurd (some refl)) (inl refl)
+      renewed middle key (peer_tag e.core) last (more ++ queued) (after_effects o.effects past) (packets ++ ps) first [] 0 0 o.after.queues 0 [] nothing_asked (record { from_zero = false; has_all = false; keeps = λ id. false; asks = ends.calls.asks; empties = ends.calls.empties; in_turn = ends.calls.in_turn }) ends.gets ends.firsts None (λ each has same. absurd ((first.known each has).0 same)) (none_former (ends.former 0) refl) (λ some. absurd (some refl)) (λ tag ne. refl) tt (λ some. absurd (some refl)) (inl refl)
       (λ former is. absurd (cc)) (λ each has. inl (has, (first.known each has).0)) in
       let adds : queued_after e input (ends.sends key).queued ≡ end.queued = input_adds e input (ends.sends key).queued in
       let shown' : QueueWaits end.queued last.queue = subst (λ (l : List Message). QueueWaits l last.queue) adds shown in
@@ -228,7 +228,7 @@ module _ (options : Options) (ends : Ends) (e : Endpoint) (queued : List Message
       let fits' : AllByRecursion Fits marked =
       subst (λ (s : SendingEnd). AllByRecursion Fits (all_marked (length s.queued) s.queues.queue.streams s.queued)) (sym (set_same key end ends.sends)) (all_marked_fit (length end.queued) last.queue.streams end.queued fit') in
       let anew : DirectionRun options (ends.firsts 0) options.max_receiver_window_buffer_size (direction_of_ends new (new_end options (ends.firsts 0))) =
-      begins_anew options (ends.firsts 0) options.max_receiver_window_buffer_size ends.calls.asks ends.calls.empties marked o.after.queues fits' holds' (ap (λ (b : EndpointQueues). b.transfer) is) in
+      begins_anew options (ends.firsts 0) options.max_receiver_window_buffer_size ends.calls.asks ends.calls.empties ends.calls.in_turn marked o.after.queues fits' holds' (ap (λ (b : EndpointQueues). b.transfer) is) in
       let never : ends.gets 0 ≡ new_end options (ends.firsts 0) = elim (h.receiver.begun 0) [ inl new' ↦ new' | inr had ↦ absurd (had.some refl) ] in
       record {
         ends = later;
@@ -252,7 +252,7 @@ module _ (options : Options) (ends : Ends) (e : Endpoint) (queued : List Message
           kept = set_all (λ tag s. tag ≢ 0 → IsOnlyOwn (after_effects o.effects past) tag → KeepsThese ends.calls s.beginning) 0 new middle.sends (λ some only. absurd (some refl))
               (λ tag ne. set_all (λ t s. t ≢ 0 → IsOnlyOwn (after_effects o.effects past) t → KeepsThese ends.calls s.beginning) key end ends.sends
               (λ some only. h.kept key some (only_before key only)) (λ t ne' some only. h.kept t some (only_before t only)) tag);
-          dropping = set_all (λ tag s. KeepsOnlyThese ends.calls s.beginning) 0 new middle.sends (record { dropped = λ id resets. refl; asks = refl; empties = refl })
+          dropping = set_all (λ tag s. KeepsOnlyThese ends.calls s.beginning) 0 new middle.sends (record { dropped = λ id resets. refl; asks = refl; empties = refl; in_turn = refl })
               (λ tag ne. set_all (λ t s. KeepsOnlyThese ends.calls s.beginning) key end ends.sends (h.dropping key) (λ t ne'. h.dropping t) tag);
           made = set_all (λ tag s. tag ≢ 0 → IsOnlyOwn (after_effects o.effects past) tag → (call : PreparedReset) → HasEntry call ends.calls.made → HasEntry call s.prepared) 0 new middle.sends (λ some only. absurd (some refl))
               (λ tag ne. set_all (λ t s. t ≢ 0 → IsOnlyOwn (after_effects o.effects past) t → (call : PreparedReset) → HasEntry call ends.calls.made → HasEntry call s.prepared) key end ends.sends

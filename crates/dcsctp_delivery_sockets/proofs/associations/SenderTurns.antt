@@ -1,6 +1,6 @@
 -- Each turn of the sender.
 use Rattle.std.proofs.Common.{Bool, true, false, None, Some, ◌≡◌, ◌≢◌, ◌<◌, ◌-◌, ◌^◌, ℕ, Option, List, [], ◌∷◌, ◌++◌, length, refl, sym, ◌∙◌, ap, arith, subst, inl, inr, Bool, false}
-use Rattle.std.specs.Prelude.{◌==◌, ◌||◌, ◌⊎◌}
+use Rattle.std.specs.Prelude.{◌==◌, ◌||◌, ◌⊎◌, Bool}
 use Rattle.std.specs.List.{AllByRecursion}
 use Rattle.std.proofs.lemmas.Bool.{eq-eqb}
 use Rattle.std.proofs.lemmas.List.{length-append}
@@ -119,20 +119,23 @@ module _ (options : Options) (ends : Ends) (e : Endpoint) (queued : List Message
     kind : (ends.sends link.my.tag).queues.queue.is_interleaved ≡ e.queues.queue.is_interleaved
     kind = sym (ap (λ (t : ℕ). (ends.sends t).queues.queue.is_interleaved) key_is) ∙ ap (λ (b : EndpointQueues). b.queue.is_interleaved) h.sender.queues_are
 
+    turned : (requests_of ends w.pairs link.my.tag).in_turn ≡ (e.queues.queue.is_interleaved || ends.calls.in_turn)
+    turned = ap (λ (b : Bool). b || ends.calls.in_turn) kind
+
     fits : AsksFit (ends.firsts link.my.tag) (own_of e) (ends.sends link.my.tag).asking
     fits = subst (λ (t : ℕ). AsksFit (ends.firsts t) (own_of e) (ends.sends t).asking) key_is h.asks
 
     few : length (ends.sends link.my.tag).asking.requests < 2 ^ 32 - 1
     few = subst (λ (t : ℕ). length (ends.sends t).asking.requests < 2 ^ 32 - 1) key_is few_now
 
-    performed : EndsPerformed e o (ends.sends (sender_key e.core)).asking
+    performed : EndsPerformed ends.calls.in_turn e o (ends.sends (sender_key e.core)).asking
     performed =
-        subst (λ (t : ℕ). EndsPerformed e o (ends.sends t).asking) (sym key_is)
-        (ends_performed (requests_of ends w.pairs) link past (identity_of_core d.core) their_past (waiting_deferral d.queues.transfer) answers e input o linked kind fits few completes_so may turn)
+        subst (λ (t : ℕ). EndsPerformed ends.calls.in_turn e o (ends.sends t).asking) (sym key_is)
+        (ends_performed (requests_of ends w.pairs) link past (identity_of_core d.core) their_past (waiting_deferral d.queues.transfer) answers e input o linked ends.calls.in_turn turned fits few completes_so may turn)
 
-    may_be : RefusesNone e o → (between : Asking) → IsBetween o.effects (ends.sends (sender_key e.core)).asking between → MayGo (requests_of ends w.pairs link.my.tag) their_past between
+    may_be : RefusesNone ends.calls.in_turn e o → (between : Asking) → IsBetween o.effects (ends.sends (sender_key e.core)).asking between → MayGo (requests_of ends w.pairs link.my.tag) their_past between
     may_be refuses between is =
-        may_go (requests_of ends w.pairs) link past (identity_of_core d.core) their_past (waiting_deferral d.queues.transfer) answers e input o linked kind fits few completes_so may turn refuses between
+        may_go (requests_of ends w.pairs) link past (identity_of_core d.core) their_past (waiting_deferral d.queues.transfer) answers e input o linked ends.calls.in_turn turned fits few completes_so may turn refuses between
         (subst (λ (t : ℕ). IsBetween o.effects (ends.sends t).asking between) key_is is)
 
     begins_so : (core : Core) (request : Option OutstandingRequest) (between asking : Asking) → identity_of_core core ≡ Some link → AskingGrows between asking → AsksFit (ends.firsts (sender_key e.core)) (own_of_core core request) asking
@@ -149,14 +152,14 @@ module _ (options : Options) (ends : Ends) (e : Endpoint) (queued : List Message
   -- ---- in any turn
 
   -- Without an association no request ends.
-  idle_performed : identity_of_core e.core ≡ None → IsCall input → Turn e input o → EndsPerformed e o (ends.sends (sender_key e.core)).asking
+  idle_performed : identity_of_core e.core ≡ None → IsCall input → Turn e input o → EndsPerformed ends.calls.in_turn e o (ends.sends (sender_key e.core)).asking
   idle_performed none may turn done interleaved =
       let found = some_completed o.effects done in
       let own = completes_own e input o found.0 found.1 may turn found.2 in
       let clash : ◌≡◌ {A = Option AssociationIdentity} None (Some own.link) = sym none ∙ own.linked in
       absurd (cc)
 
-  performed_by : (found : Option AssociationIdentity) → identity_of_core e.core ≡ found → IsCall input → Turn e input o → CompletesPerformed their_past o → EndsPerformed e o (ends.sends (sender_key e.core)).asking
+  performed_by : (found : Option AssociationIdentity) → identity_of_core e.core ≡ found → IsCall input → Turn e input o → CompletesPerformed their_past o → EndsPerformed ends.calls.in_turn e o (ends.sends (sender_key e.core)).asking
   performed_by None none may turn completes_so = idle_performed none may turn
   performed_by (Some link) linked may turn completes_so = performed link linked may turn completes_so
 
@@ -168,7 +171,7 @@ module _ (options : Options) (ends : Ends) (e : Endpoint) (queued : List Message
   abbrev grown_to : EndpointQueues → ℕ → Asking → SendingEnd
   grown_to below acknowledged asking = grown_end ends (sender_key e.core) (peer_tag e.core) e.queues queued past packets h.sender o.effects (queued_after e input []) below acknowledged (packets_of_events o.events) asking calls_now (calls_after e input (length queued) ends.calls)
 
-  goes_answered : (found : Option AssociationIdentity) → identity_of_core e.core ≡ found → IsCall input → Turn e input o → RefusesNone e o → CompletesPerformed their_past o → identity_of_core o.after.core ≡ identity_of_core e.core
+  goes_answered : (found : Option AssociationIdentity) → identity_of_core e.core ≡ found → IsCall input → Turn e input o → RefusesNone ends.calls.in_turn e o → CompletesPerformed their_past o → identity_of_core o.after.core ≡ identity_of_core e.core
       → AreAddressed (peer_tag e.core) (packets_of_events o.events) → o.after.queues.queue.is_interleaved ≡ e.queues.queue.is_interleaved → (acknowledged : ℕ) (between asking : Asking)
       → IsBetween o.effects (ends.sends (sender_key e.core)).asking between → AskingGrows between asking → AsksFit (ends.firsts (sender_key e.core)) (own_of o.after) asking → length asking.requests < 2 ^ 32 - 1
       → AreAnswered (grown_ends ends (sender_key e.core) (peer_tag e.core) e.queues queued past packets h.sender o.effects (queued_after e input []) o.after.queues acknowledged (packets_of_events o.events) asking calls_now (calls_after e input (length queued) ends.calls)) o.after (after_effects o.effects past) d their_past
@@ -377,7 +380,7 @@ module _ (options : Options) (ends : Ends) (e : Endpoint) (queued : List Message
   with_none none =
       subst (λ (accepted : Option (List ℕ)). AreEnds (record ends.calls { made = prepared_with accepted (length queued) ends.calls.made }) seen options (sending_side o.after (queued_after e input queued) (after_effects o.effects past) (packets ++ packets_of_events o.events)) (receiving_side d their_past reading)) (sym none)
 
-  by_turn : length (queued_after e input queued) < 2 ^ 64 → o.after.options.follow_rfc ≡ e.options.follow_rfc → ResetsAs ends.calls (length queued) e input → IsCall input → Turn e input o → RefusesNone e o → CompletesPerformed their_past o
+  by_turn : length (queued_after e input queued) < 2 ^ 64 → o.after.options.follow_rfc ≡ e.options.follow_rfc → ResetsAs ends.calls (length queued) e input → IsCall input → Turn e input o → RefusesNone ends.calls.in_turn e o → CompletesPerformed their_past o
       → SenderTurns options (ends.firsts (sender_key e.core)) options.max_receiver_window_buffer_size (direction_of_ends (ends.sends (sender_key e.core)) (ends.gets (sender_key e.core))) e input o
       → AreEnds (calls_after e input (length queued) ends.calls) seen options (sending_side o.after (queued_after e input queued) (after_effects o.effects past) (packets ++ packets_of_events o.events)) (receiving_side d their_past reading)
   by_turn few follows resets may turn refuses completes_so (run_goes_on linked addressed kind' acknowledged between asking is grows fit run) =
@@ -431,10 +434,10 @@ module _ (options : Options) (ends : Ends) (e : Endpoint) (queued : List Message
       among_resets [] each = tt
       among_resets (id ∷ some) each = (each id (rw (eq-eqb id id refl) refl), among_resets some (λ other named. each other (rw named (or_true (id == other)))))
 
-  pub sender_turns : ((link : AssociationIdentity) → identity_of_core e.core ≡ Some link → CameBack (packets_of_events seen) link.my.tag (content_of_input input)) → length (queued_after e input queued) < 2 ^ 64 → RefusesNone e o → ResetsAs ends.calls (length queued) e input → CompletesPerformed their_past o → o.after.options.follow_rfc ≡ e.options.follow_rfc → IsCall input → Turn e input o
+  pub sender_turns : ((link : AssociationIdentity) → identity_of_core e.core ≡ Some link → CameBack (packets_of_events seen) link.my.tag (content_of_input input)) → length (queued_after e input queued) < 2 ^ 64 → RefusesNone ends.calls.in_turn e o → ResetsAs ends.calls (length queued) e input → CompletesPerformed their_past o → o.after.options.follow_rfc ≡ e.options.follow_rfc → IsCall input → Turn e input o
       → AreEnds (calls_after e input (length queued) ends.calls) seen options (sending_side o.after (queued_after e input queued) (after_effects o.effects past) (packets ++ packets_of_events o.events)) (receiving_side d their_past reading)
   sender_turns back few refuses resets completes_so follows may turn =
       by_turn few follows resets may turn refuses completes_so
       (senders_go_on options (ends.firsts key) options.max_receiver_window_buffer_size now e input o (h.runs key) (h.small key) h.sender.queues_are h.rules h.asks
-      (performed_by (identity_of_core e.core) refl may turn completes_so) refuses (may_drop resets) (λ begun opening linked. small_so begun opening linked)
+      (subst (λ (b : Bool). EndsPerformed b e o now.asking) (sym (h.dropping key).in_turn) (performed_by (identity_of_core e.core) refl may turn completes_so)) (subst (λ (b : Bool). RefusesNone b e o) (sym (h.dropping key).in_turn) refuses) (may_drop resets) (λ begun opening linked. small_so begun opening linked)
       (told back) (few_queued few) may turn)

@@ -21,7 +21,7 @@ use Rattle.dcsctp_delivery_sockets.specs.turns.Sides.{WasAsked, WasSent}
 use Rattle.dcsctp_delivery_sockets.specs.turns.ToldResets.{AreRequested, ReportsResets}
 use Rattle.dcsctp_delivery_sockets.proofs.turns.PeerRequests.{none_requested}
 use Rattle.dcsctp_delivery_sockets.proofs.turns.ToldRequests.{turns_report_requests}
-use Rattle.dcsctp_delivery_sockets.specs.associations.Ends.{ReceivingEnd, WasReset, WasTold}
+use Rattle.dcsctp_delivery_sockets.specs.associations.Ends.{ReceivingEnd, WasReset, WasReported}
 use Rattle.dcsctp_delivery_sockets.specs.associations.Laws.{TellsPerformed}
 use Rattle.dcsctp_delivery_sockets.specs.associations.Reads.{AreOfLink, Tags, ReportedReset, reported_with}
 use Rattle.dcsctp_delivery_sockets.proofs.associations.UnaskedPasts.{some_reset}
@@ -71,11 +71,11 @@ told_more tags index [] resets report has = has
 told_more tags index (incoming_stream_reset streams ∷ events) resets report has = inr (told_more tags index events resets report has)
 told_more tags index (event ∷ events) resets report has = told_more tags index events resets report has
 
-pub still_told : (tags : Tags) (index : ℕ) (events : List (Event Emission)) (resets : List ReportedReset) (tag : ℕ) (reset : PerformedReset) → WasTold resets tag reset → WasTold (reported_with tags index events resets) tag reset
+pub still_told : (tags : Tags) (index : ℕ) (events : List (Event Emission)) (resets : List ReportedReset) (tag : ℕ) (reset : PerformedReset) → WasReported resets tag reset → WasReported (reported_with tags index events resets) tag reset
 still_told tags index events resets tag reset told = record { report = told.report; has = told_more tags index events resets told.report told.has; reset_is = told.reset_is; tag_is = told.tag_is }
 
 pub told_now : (tags : Tags) (index : ℕ) (events : List (Event Emission)) (resets : List ReportedReset) (streams : List ℕ) → HasEntry (incoming_stream_reset streams) events
-    → WasTold (reported_with tags index events resets) tags.peer (record { streams = streams; index = index })
+    → WasReported (reported_with tags index events resets) tags.peer (record { streams = streams; index = index })
 told_now tags index events resets streams told = record { report = record { tags = tags; reset = record { streams = streams; index = index } }; has = entry events told; reset_is = refl; tag_is = refl }
   where
     same_streams : {one two : List ℕ} → ◌≡◌ {A = Event Emission} (incoming_stream_reset one) (incoming_stream_reset two) → one ≡ two

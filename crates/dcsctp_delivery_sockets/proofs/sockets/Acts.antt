@@ -1,4 +1,5 @@
 -- What two sockets do one after another.
+use Rattle.dcsctp_delivery_sockets.specs.turns.Runs.{RefusesNone}
 use Rattle.std.proofs.Common.{◌≡◌, ℕ, ◌<◌, ◌≤◌, ◌^◌, List, [], ◌∷◌, ◌++◌, append_assoc, length, refl, sym, ◌∙◌, ap, arith, subst, inr}
 use Rattle.std.specs.List.{AllByRecursion}
 use Rattle.std.proofs.lemmas.List.{append-nil, length-append}
@@ -57,17 +58,17 @@ resets_with calls made count e input r = record { never = r.never; asks = r.asks
 module _ (calls : ResetCalls) (seen : List (Event Emission)) (options : Options) (d : Endpoint) (their_past : List Effect) (reading : Reading) where
   -- the first of these turns
   sender_first : (t : Transition) (turns : List Transition) (e : Endpoint) (queued : List Message) (past : List Effect) (packets : List Emission) (made : List PreparedReset) → AreEnds (record calls { made = made }) seen options (sending_side e queued past packets) (receiving_side d their_past reading) → AreTurns e (t ∷ turns)
-      → ResetsThrough calls e queued (t ∷ turns) → AlongTurns (HearsBack (packets_of_events seen)) e (t ∷ turns) → AreNewPeers past their_past e (t ∷ turns) → length (queued_through e (t ∷ turns) queued) < 2 ^ 64
+      → ResetsThrough calls e queued (t ∷ turns) → AlongTurns (HearsBack (packets_of_events seen)) e (t ∷ turns) → AreNewPeers calls.in_turn past their_past e (t ∷ turns) → length (queued_through e (t ∷ turns) queued) < 2 ^ 64
       → AsksLittle ((packets ++ packets_of_events t.outcome.events) ++ packets_of_events (events_of turns))
       → AreEnds (record calls { made = prepared_after e t.input (length queued) made }) seen options (sending_side t.outcome.after (queued_after e t.input queued) (after_effects t.outcome.effects past) (packets ++ packets_of_events t.outcome.events)) (receiving_side d their_past reading)
   sender_first t turns e queued past packets made h taken resets back new few all =
       let grows = queued_grows t.outcome.after turns (queued_after e t.input queued) in
       (subst (λ (n : ResetCalls). AreEnds (calls_after e t.input (length queued) n) seen options (sending_side t.outcome.after (queued_after e t.input queued) (after_effects t.outcome.effects past) (packets ++ packets_of_events t.outcome.events)) (receiving_side d their_past reading)) h.is
       (sender_turns options h.ends e queued past packets d their_past reading h.between t.input t.outcome new.1 h.answered
-      (asks_little (packets ++ packets_of_events t.outcome.events) (packets_of_events (events_of turns)) all) seen h.reported back.0 (omega (arith, few, grows)) new.2 (subst (λ (n : ResetCalls). ResetsAs n (length queued) e t.input) (sym h.is) (resets_with calls made (length queued) e t.input resets.0)) new.3 new.4 new.0 taken.0))
+      (asks_little (packets ++ packets_of_events t.outcome.events) (packets_of_events (events_of turns)) all) seen h.reported back.0 (omega (arith, few, grows)) (subst (λ (n : ResetCalls). RefusesNone n.in_turn e t.outcome) (sym h.is) new.2) (subst (λ (n : ResetCalls). ResetsAs n (length queued) e t.input) (sym h.is) (resets_with calls made (length queued) e t.input resets.0)) new.3 new.4 new.0 taken.0))
 
   pub senders_act : (turns : List Transition) (e : Endpoint) (queued : List Message) (past : List Effect) (packets : List Emission) (made : List PreparedReset) → AreEnds (record calls { made = made }) seen options (sending_side e queued past packets) (receiving_side d their_past reading) → AreTurns e turns
-      → ResetsThrough calls e queued turns → AlongTurns (HearsBack (packets_of_events seen)) e turns → AreNewPeers past their_past e turns → length (queued_through e turns queued) < 2 ^ 64 → AsksLittle (packets ++ packets_of_events (events_of turns))
+      → ResetsThrough calls e queued turns → AlongTurns (HearsBack (packets_of_events seen)) e turns → AreNewPeers calls.in_turn past their_past e turns → length (queued_through e turns queued) < 2 ^ 64 → AsksLittle (packets ++ packets_of_events (events_of turns))
       → AreEnds (record calls { made = made_through e turns queued made }) seen options (sending_side (after_all e turns) (queued_through e turns queued) (after_effects (effects_of turns) past) (packets ++ packets_of_events (events_of turns))) (receiving_side d their_past reading)
   senders_act [] e queued past packets made h taken resets back new few little = subst (λ (l : List Emission). AreEnds (record calls { made = made }) seen options (sending_side e queued past l) (receiving_side d their_past reading)) (sym (append-nil packets)) h
   senders_act (t ∷ turns) e queued past packets made h taken resets back new few little =
@@ -81,7 +82,7 @@ module _ (calls : ResetCalls) (seen : List (Event Emission)) (options : Options)
 
   -- Of each reset that the sender's user is told is performed, the receiver's was told.
   pub senders_reset : (turns : List Transition) (e : Endpoint) (queued : List Message) (past : List Effect) (packets : List Emission) (made : List PreparedReset) → AreEnds (record calls { made = made }) seen options (sending_side e queued past packets) (receiving_side d their_past reading) → AreTurns e turns
-      → ResetsThrough calls e queued turns → AlongTurns (HearsBack (packets_of_events seen)) e turns → AreNewPeers past their_past e turns → length (queued_through e turns queued) < 2 ^ 64 → AsksLittle (packets ++ packets_of_events (events_of turns))
+      → ResetsThrough calls e queued turns → AlongTurns (HearsBack (packets_of_events seen)) e turns → AreNewPeers calls.in_turn past their_past e turns → length (queued_through e turns queued) < 2 ^ 64 → AsksLittle (packets ++ packets_of_events (events_of turns))
       → AllByRecursion (λ turn. ResetsWereSeen seen turn.outcome) turns
   senders_reset [] e queued past packets made h taken resets back new few little = tt
   senders_reset (t ∷ turns) e queued past packets made h taken resets back new few little =

@@ -1,8 +1,10 @@
 -- Over an honest run in which each tag serves one association, what a user reads is what its peer's
 -- user sent.
+use Rattle.dcsctp_delivery_sockets.proofs.sockets.Split.{is_split}
+use Rattle.dcsctp_delivery_sockets.specs.sockets.Split.{IsSplitByResets}
 use Rattle.std.proofs.Common.{◌≡◌, ℕ, zero, suc, List, [], ◌∷◌, ◌++◌, length, refl, sym, ◌∙◌, ap, subst, inl, inr, Bool, true, not, ◌<◌, ◌^◌, false, ◌+◌, arith}
 use Rattle.std.proofs.lemmas.Bool.Decides.{leb_tells}
-use Rattle.std.specs.Prelude.{◌⊎◌, Option, None, Some}
+use Rattle.std.specs.Prelude.{◌⊎◌, Option, None, Some, false, Bool}
 use Rattle.std.specs.List.{slice_get}
 use Rattle.std.proofs.lemmas.List.{append-nil}
 use Rattle.dcsctp_spec_lemmas.specs.wire.Content.{PacketContent}
@@ -12,7 +14,7 @@ use Rattle.dcsctp_spec_lemmas.specs.types.declared.schedule.Side.{Side}
 use Rattle.dcsctp_spec_lemmas.specs.types.declared.schedule.Side.TheVariants as sides
 use Rattle.dcsctp_spec_lemmas.specs.types.Schedule.{StepContent, call_step, delivery_step, ActContent, step_act, outside_act, IsHonestAct, AreHonest}
 use Rattle.dcsctp_spec_lemmas.specs.types.Settings.{FitsOptions, wire_options, ports_of}
-use Rattle.dcsctp_spec_lemmas.specs.spec.endpoint.CallTurns.{Transition, HandleInput, events_of, effects_of}
+use Rattle.dcsctp_spec_lemmas.specs.spec.endpoint.CallTurns.{Transition, HandleInput, events_of, effects_of, AlongTurns}
 use Rattle.dcsctp_spec_lemmas.specs.spec.endpoint.Endpoint.{Endpoint, fresh_endpoint}
 use Rattle.dcsctp_spec_lemmas.specs.spec.endpoint.Event.{Event, sent, packets_of_events}
 use Rattle.dcsctp_spec_runs.specs.Fitting.{HoldsIfSent, AllSent, FitsEndpoint, IsSendable}
@@ -32,7 +34,7 @@ use Rattle.dcsctp_delivery_sockets.specs.associations.Reads.{nothing_read, messa
 use Rattle.dcsctp_delivery_sockets.specs.sockets.Echoes.{GoesToMaker}
 use Rattle.dcsctp_delivery_sockets.specs.sockets.Ordered.{HasOneTag, StartsAtZero, AllowsOrder, IsDeliveredInOrder, read_under, AllowsNoGaps, IsDeliveredWithoutGaps, IsReliable, IsDeliveredByStream, AllowsDataOrder}
 use Rattle.dcsctp_delivery_sockets.specs.sockets.UserMessages.{messages_of_turns, sendings_of_turns, read_of, IsDelivered}
-use Rattle.dcsctp_delivery_sockets.specs.sockets.Delivery.{FitsStep, AreInMemory, MatchOrUnmatched, SendsLittle, SendsLittleTogether, TurnsAllowDelivery, Delivers, SocketsDeliver, IsOfNewTagsBut}
+use Rattle.dcsctp_delivery_sockets.specs.sockets.Delivery.{FitsStep, AreInMemory, MatchOrUnmatched, SendsLittle, SendsLittleTogether, TurnsAllowDelivery, Delivers, SocketsDeliver, IsOfNewTagsBut, NoneFails, IsUnrefused}
 use Rattle.dcsctp_delivery_sockets.proofs.associations.Delivers.{ends_begin, ends_deliver}
 use Rattle.dcsctp_delivery_sockets.specs.sockets.Acts.{ResetsThrough}
 use Rattle.dcsctp_delivery_sockets.specs.sockets.Epochs.{HasReset, ReportsPeerReset, IsDeliveredByEpoch, IsDeliveredInEpochs, ResetsWithNoneWaiting}
@@ -279,15 +281,22 @@ none_of_all stream [] each = tt
 none_of_all stream (turn ∷ turns) each = (not_this turn.input stream each.0, none_of_all stream turns each.1)
 
 -- the resets that a user asks for by these turns
+abbrev pub turning_calls : Bool → Options → List Transition → ResetCalls
+turning_calls in_turn options turns = record { never = resets_none turns; asks = asked_through (fresh_endpoint options) [] turns; empties = emptied_through (fresh_endpoint options) [] turns; made = []; in_turn = in_turn }
+
+abbrev pub both_turning : Bool → Both Options → Both (List Transition) → Both ResetCalls
+both_turning in_turn options turns = record { a = turning_calls in_turn options.a turns.a; b = turning_calls in_turn options.b turns.b }
+
+-- where a request may fail without interleaving
 abbrev pub calls_of : Options → List Transition → ResetCalls
-calls_of options turns = record { never = resets_none turns; asks = asked_through (fresh_endpoint options) [] turns; empties = emptied_through (fresh_endpoint options) [] turns; made = [] }
+calls_of options turns = turning_calls false options turns
 
 abbrev pub both_calls : Both Options → Both (List Transition) → Both ResetCalls
-both_calls options turns = record { a = calls_of options.a turns.a; b = calls_of options.b turns.b }
+both_calls options turns = both_turning false options turns
 
-pub both_known : DeliveryLaws → SocketsReportEffects → (options : Both Options) (run : List PerformedAct) → AreUsable options → SocketRun options run → AreHonest (acts_of run) → AreFresh (turns_after run) → TurnsAllowDelivery options (turns_after run)
-    → BothKnown (both_calls options (turns_after run)) options (turns_after run)
-both_known law told options run are runs honest fresh allows =
+pub both_known : DeliveryLaws → SocketsReportEffects → (in_turn : Bool) (options : Both Options) (run : List PerformedAct) → AreUsable options → SocketRun options run → AreHonest (acts_of run) → AreFresh (turns_after run) → TurnsAllowDelivery options (turns_after run)
+    → ((side : Side) → AlongTurns (IsUnrefused in_turn) (fresh_endpoint (of_side side options)) (of_side side (turns_after run))) → BothKnown (both_turning in_turn options (turns_after run)) options (turns_after run)
+both_known law told in_turn options run are runs honest fresh allows unrefused =
     let j : Joined options (turns_after run) = joined law.below options run are runs honest in
     record {
       a = record {
@@ -295,8 +304,8 @@ both_known law told options run are runs honest fresh allows =
         moves = of_moves law.moves IsMove (λ e t moves. moves) options run are runs sides.A;
         packets = good_all (events_of (turns_after run).a) (all_sent_map (λ emission went. went.sendable) (events_of (turns_after run).a) j.a.went)
             (echoes_go_to_makers law.below law.answers options run are runs honest fresh sides.A);
-        refused = allows.refused sides.A;
-        resets = resets_so (calls_of options.a (turns_after run).a) (fresh_endpoint options.a) [] (turns_after run).a (λ stream is. is) (λ stream count is. is) (λ stream count is. is);
+        refused = unrefused sides.A;
+        resets = resets_so (turning_calls in_turn options.a (turns_after run).a) (fresh_endpoint options.a) [] (turns_after run).a (λ stream is. is) (λ stream count is. is) (λ stream count is. is);
         tells = all_tell (turns_after run).a (told options run are runs sides.A);
         tags = allows.tags.a;
         little = allows.little sides.A;
@@ -307,8 +316,8 @@ both_known law told options run are runs honest fresh allows =
         moves = of_moves law.moves IsMove (λ e t moves. moves) options run are runs sides.B;
         packets = good_all (events_of (turns_after run).b) (all_sent_map (λ emission went. went.sendable) (events_of (turns_after run).b) j.b.went)
             (echoes_go_to_makers law.below law.answers options run are runs honest fresh sides.B);
-        refused = allows.refused sides.B;
-        resets = resets_so (calls_of options.b (turns_after run).b) (fresh_endpoint options.b) [] (turns_after run).b (λ stream is. is) (λ stream count is. is) (λ stream count is. is);
+        refused = unrefused sides.B;
+        resets = resets_so (turning_calls in_turn options.b (turns_after run).b) (fresh_endpoint options.b) [] (turns_after run).b (λ stream is. is) (λ stream count is. is) (λ stream count is. is);
         tells = all_tell (turns_after run).b (told options run are runs sides.B);
         tags = allows.tags.b;
         little = allows.little sides.B;
@@ -487,6 +496,12 @@ module _ (reset_calls : ResetCalls) (mine theirs : Options) (turns others : List
       is_by_epoch reset_calls mine theirs turns others h (few_queued mine turns little) few_went (peers_differ mine (recorded_past others) (recorded_past turns) each) (peers_differ theirs (recorded_past turns) (recorded_past others) their_each)
       sent_all sent_same asked rules tag starts interleaves
 
+  one_split : (endpoint_after mine turns).options.follow_rfc ≡ mine.follow_rfc → ((stream count : ℕ) → reset_calls.asks stream count ≡ true → HasReset mine turns stream count) → reset_calls.in_turn ≡ true → (tag : ℕ) → StartsAtZero mine turns
+      → IsSplitByResets (HasReset mine turns) (ReportsPeerReset theirs others tag) sent_all (read_under tag theirs others)
+  one_split rules asked fails_none tag starts =
+      is_split reset_calls mine theirs turns others h (few_queued mine turns little) few_went (peers_differ mine (recorded_past others) (recorded_past turns) each) (peers_differ theirs (recorded_past turns) (recorded_past others) their_each)
+      sent_all sent_same asked rules tag starts fails_none
+
   one_in_epochs : ((stream count : ℕ) → reset_calls.asks stream count ≡ true → HasReset mine turns stream count) → ((stream count : ℕ) → ResetsWithNoneWaiting mine turns stream count → reset_calls.empties stream count ≡ true) → (tag : ℕ) → HasOneTag (recorded_past turns) → Interleaves (recorded_past turns) tag
       → IsDeliveredInEpochs (theirs.follow_rfc ≡ false) (HasReset mine turns) (ResetsWithNoneWaiting mine turns) (ReportsPeerReset theirs others tag) sent_all (read_under tag theirs others)
   one_in_epochs asked empties tag only interleaves =
@@ -497,19 +512,37 @@ module _ (reset_calls : ResetCalls) (mine theirs : Options) (turns others : List
 pub sockets_stand : DeliveryLaws → SocketsReportEffects → (options : Both Options) (run : List PerformedAct) → AreUsable options → AreInMemory (acts_of run) → SocketRun options run → AreHonest (acts_of run) → AreFresh (turns_after run)
     → TurnsAllowDelivery options (turns_after run) → BothStand (both_calls options (turns_after run)) options (turns_after run)
 sockets_stand law told options run are in_memory runs honest fresh allows =
-    both_stand law.below law.answers (both_calls options (turns_after run)) options run are runs honest fresh in_memory (both_known law told options run are runs honest fresh allows)
+    both_stand law.below law.answers (both_calls options (turns_after run)) options run are runs honest fresh in_memory (both_known law told false options run are runs honest fresh allows allows.refused)
 
 pub sockets_deliver : DeliveryLaws → SocketsReportEffects → SocketsDeliver
-sockets_deliver law told options run are in_memory runs honest fresh allows side = both_deliver (sockets_stand law told options run are in_memory runs honest fresh allows) side
+sockets_deliver law told options run are in_memory runs honest fresh allows side =
+    both_deliver (both_stand law.below law.answers (both_calls options turns) options run are runs honest fresh in_memory known) side
   where
     turns : Both (List Transition)
     turns = turns_after run
 
     known : BothKnown (both_calls options turns) options turns
-    known = both_known law told options run are runs honest fresh allows
+    known = both_known law told false options run are runs honest fresh allows allows.refused
 
     window : (s : Side) → (of_side s options).max_receiver_window_buffer_size < 2 ^ 32
     window s = (are s).valid.receive_window
+
+    -- where no request fails
+    known_all : NoneFails options turns → BothKnown (both_turning true options turns) options turns
+    known_all fails = both_known law told true options run are runs honest fresh allows fails
+
+    stand_all : NoneFails options turns → BothStand (both_turning true options turns) options turns
+    stand_all fails = both_stand law.below law.answers (both_turning true options turns) options run are runs honest fresh in_memory (known_all fails)
+
+    split_a : NoneFails options turns → (tag : ℕ) → StartsAtZero options.b turns.b → IsSplitByResets (HasReset options.b turns.b) (ReportsPeerReset options.a turns.a tag) (sendings_of_turns (fresh_endpoint options.b) turns.b) (read_under tag options.a turns.a)
+    split_a fails =
+        let k = known_all fails in
+        one_split (turning_calls true options.b turns.b) options.b options.a turns.b turns.a (allows.little sides.B) (allows.together sides.B) (stand_all fails).to_a (window sides.A) k.b.tags k.a.tags (same_rules_after (turning_calls true options.b turns.b) options.b turns.b k.b) (has_reset_so options.b turns.b) refl
+
+    split_b : NoneFails options turns → (tag : ℕ) → StartsAtZero options.a turns.a → IsSplitByResets (HasReset options.a turns.a) (ReportsPeerReset options.b turns.b tag) (sendings_of_turns (fresh_endpoint options.a) turns.a) (read_under tag options.b turns.b)
+    split_b fails =
+        let k = known_all fails in
+        one_split (turning_calls true options.a turns.a) options.a options.b turns.a turns.b (allows.little sides.A) (allows.together sides.A) (stand_all fails).to_b (window sides.B) k.a.tags k.b.tags (same_rules_after (turning_calls true options.a turns.a) options.a turns.a k.a) (has_reset_so options.a turns.a) refl
 
     both_deliver : BothStand (both_calls options turns) options turns → (s : Side) → Delivers options turns s
     both_deliver h sides.A =
@@ -522,6 +555,7 @@ sockets_deliver law told options run are in_memory runs honest fresh allows side
           complete = one_complete (calls_of options.b turns.b) options.b options.a turns.b turns.a (allows.little sides.B) (allows.together sides.B) h.to_a (window sides.A) known.b.tags known.a.tags (λ stream is. is);
           shared_resets = resets_shared (events_of turns.a) turns.b (told options run are runs sides.B) h.b_resets;
           by_epoch = one_by_epoch (calls_of options.b turns.b) options.b options.a turns.b turns.a (allows.little sides.B) (allows.together sides.B) h.to_a (window sides.A) known.b.tags known.a.tags (same_rules_after (calls_of options.b turns.b) options.b turns.b known.b) (has_reset_so options.b turns.b);
+          split = λ fails. split_a fails;
           in_epochs = one_in_epochs (calls_of options.b turns.b) options.b options.a turns.b turns.a (allows.little sides.B) (allows.together sides.B) h.to_a (window sides.A) known.b.tags known.a.tags (has_reset_so options.b turns.b) (emptied_so options.b turns.b);
         }
     both_deliver h sides.B =
@@ -534,5 +568,6 @@ sockets_deliver law told options run are in_memory runs honest fresh allows side
           complete = one_complete (calls_of options.a turns.a) options.a options.b turns.a turns.b (allows.little sides.A) (allows.together sides.A) h.to_b (window sides.B) known.a.tags known.b.tags (λ stream is. is);
           shared_resets = resets_shared (events_of turns.b) turns.a (told options run are runs sides.A) h.a_resets;
           by_epoch = one_by_epoch (calls_of options.a turns.a) options.a options.b turns.a turns.b (allows.little sides.A) (allows.together sides.A) h.to_b (window sides.B) known.a.tags known.b.tags (same_rules_after (calls_of options.a turns.a) options.a turns.a known.a) (has_reset_so options.a turns.a);
+          split = λ fails. split_b fails;
           in_epochs = one_in_epochs (calls_of options.a turns.a) options.a options.b turns.a turns.b (allows.little sides.A) (allows.together sides.A) h.to_b (window sides.B) known.a.tags known.b.tags (has_reset_so options.a turns.a) (emptied_so options.a turns.a);
         }

@@ -13,7 +13,7 @@ use Rattle.dcsctp_delivery_directions.specs.sending.ChunkCounts.{chunks_to}
 use Rattle.dcsctp_delivery_directions.specs.order.Queue as directions
 use Rattle.dcsctp_delivery_directions.specs.order.Queue.{Separates, LeaveNoGapBefore}
 use Rattle.dcsctp_delivery_directions.specs.epochs.Asked.{AreCutAsAsked}
-use Rattle.dcsctp_delivery_sockets.specs.associations.Ends.{WasTold, ResetCalls, HadBoth, chunks_before, NumbersFromZero}
+use Rattle.dcsctp_delivery_sockets.specs.associations.Ends.{WasReported, ResetCalls, HadBoth, chunks_before, NumbersFromZero}
 use Rattle.dcsctp_delivery_sockets.specs.associations.InOrder.{AreCutByUser, Interleaves, full_asks}
 use Rattle.dcsctp_delivery_sockets.specs.associations.Reads.{Tags, ReadMessage, ReportedReset, Reading, nothing_read, tagged_after, reached_index, with_tag, with_key}
 use Rattle.dcsctp_delivery_sockets.proofs.associations.InOrder.{ends_cut_as_asked, ends_cut_without_gaps}
@@ -32,7 +32,7 @@ use Rattle.dcsctp_delivery_sockets.proofs.sockets.ToldResets.{told_report, reads
 use Rattle.dcsctp_delivery_sockets.proofs.sockets.UserMessages.{SaysSame, ordered_on, spared_on, message_on, is_in_order}
 
 -- What separates what was queued splits what was sent.
-split_of : (queued : List Message) (sent : List Sending) (same : SaysSame (λ sending. sending) queued sent) (stream index count : ℕ) (places : List ℕ) → Separates queued stream index count places → AreSplit sent stream index count places
+pub split_of : (queued : List Message) (sent : List Sending) (same : SaysSame (λ sending. sending) queued sent) (stream index count : ℕ) (places : List ℕ) → Separates queued stream index count places → AreSplit sent stream index count places
 split_of queued sent same stream index count [] apart = tt
 split_of queued sent same stream zero count (place ∷ places) apart = ((λ on. apart.0 (message_on queued sent same stream place on)), split_of queued sent same stream zero count places apart.1)
 split_of queued sent same stream (suc index) count (place ∷ places) apart = ((λ on. apart.0 (message_on queued sent same stream place on)), split_of queued sent same stream index count places apart.1)
@@ -66,10 +66,10 @@ module _ (reset_calls : ResetCalls) (mine theirs : Options) (turns others : List
     (went : (tag : ℕ) → chunks_before (h.ends.former tag) (packets_of turns) + chunks_to (h.ends.latest tag) (packets_of turns) < 2 ^ 30)
     (mine_differ : PeersDiffer (recorded_past turns)) (theirs_differ : PeersDiffer (recorded_past others)) where
   -- A reset that was reported was performed under this tag of the sender.
-  record IsPerformed (tag : ℕ) (streams : List ℕ) (index : ℕ) : Type 0 where
-    key : ℕ
-    both : HadBoth (recorded_past turns) key tag
-    performed : HasEntry (record { streams = streams; index = index }) (h.ends.gets key).performed
+  pub record IsPerformed (tag : ℕ) (streams : List ℕ) (index : ℕ) : Type 0 where
+    pub key : ℕ
+    pub both : HadBoth (recorded_past turns) key tag
+    pub performed : HasEntry (record { streams = streams; index = index }) (h.ends.gets key).performed
 
   module _ (tag : ℕ) (streams : List ℕ) (index : ℕ) (r : ReportsPeerReset theirs others tag streams index) where
     abbrev reading : Reading
@@ -96,7 +96,7 @@ module _ (reset_calls : ResetCalls) (mine theirs : Options) (turns others : List
         (subst (λ (x : Reading). HasEntry m x.reads) (sym (reading_more (fresh_endpoint theirs) r.earlier (r.turn ∷ r.later) nothing_read))
         (reads_more m r.turn.outcome.after r.later _ has))
 
-    told_performed : IsPerformed tag streams index
+    pub told_performed : IsPerformed tag streams index
     told_performed =
         let c = crossed_reset theirs h.ends (endpoint_after mine turns) (queued_of mine turns) (recorded_past turns) (packets_of turns) (endpoint_after theirs others) (recorded_past others) (reading_of theirs others) h.between mine_differ theirs_differ report reported in
         let both : HadBoth (recorded_past turns) reading.last.peer tag = subst (HadBoth (recorded_past turns) reading.last.peer) r.tag_is c.both in
@@ -209,7 +209,7 @@ module _ (reset_calls : ResetCalls) (mine theirs : Options) (turns others : List
         → ReportsPeerReset theirs others tag reset.streams reset.index
     told_under plainly key both link held peer own reset has = found (told_in (fresh_endpoint theirs) others nothing_read w.report w.has)
       where
-        w : WasTold (reading_of theirs others).resets key reset
+        w : WasReported (reading_of theirs others).resets key reset
         w = h.between.receiver.were_told plainly key reset has
 
         c : IsCrossedReset theirs h.ends (endpoint_after mine turns) (queued_of mine turns) (recorded_past turns) (packets_of turns) (endpoint_after theirs others) (recorded_past others) (reading_of theirs others) h.between mine_differ theirs_differ w.report

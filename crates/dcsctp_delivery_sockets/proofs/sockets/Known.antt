@@ -94,7 +94,7 @@ pub record GoodPacket (emission : Emission) : Type 0 where
 pub record SideKnown (reset_calls : ResetCalls) (options : Options) (theirs : List Effect) (turns : List Transition) : Type 0 where
   pub own : AlongTurns IsOwn (fresh_endpoint options) turns
   pub moves : AlongTurns IsMove (fresh_endpoint options) turns
-  pub refused : AlongTurns IsUnrefused (fresh_endpoint options) turns
+  pub refused : AlongTurns (IsUnrefused reset_calls.in_turn) (fresh_endpoint options) turns
   pub resets : ResetsThrough reset_calls (fresh_endpoint options) [] turns
   pub tells : AllByRecursion (λ turn. TellsPerformed turn.outcome) turns
   pub packets : AllSent GoodPacket (events_of turns)
@@ -107,7 +107,7 @@ side_front reset_calls options theirs turns more h =
     record {
       own = along_front IsOwn (fresh_endpoint options) turns more h.own;
       moves = along_front IsMove (fresh_endpoint options) turns more h.moves;
-      refused = along_front IsUnrefused (fresh_endpoint options) turns more h.refused;
+      refused = along_front (IsUnrefused reset_calls.in_turn) (fresh_endpoint options) turns more h.refused;
       resets = resets_front reset_calls (fresh_endpoint options) [] turns more h.resets;
       tells = tells_front turns more h.tells;
       packets = sent_front GoodPacket (events_of turns) (events_of more) (subst (AllSent GoodPacket) (events_of-append turns more) h.packets);
@@ -155,8 +155,8 @@ rest_turns reset_calls options turns more h = are_turns (endpoint_after options 
 pub rest_moves : (reset_calls : ResetCalls) (options : Options) {theirs : List Effect} (turns more : List Transition) → SideKnown reset_calls options theirs (turns ++ more) → AlongTurns IsMove (endpoint_after options turns) more
 rest_moves reset_calls options turns more h = along_rest IsMove (fresh_endpoint options) turns more h.moves
 
-pub rest_refused : (reset_calls : ResetCalls) (options : Options) {theirs : List Effect} (turns more : List Transition) → SideKnown reset_calls options theirs (turns ++ more) → AlongTurns IsUnrefused (endpoint_after options turns) more
-rest_refused reset_calls options turns more h = along_rest IsUnrefused (fresh_endpoint options) turns more h.refused
+pub rest_refused : (reset_calls : ResetCalls) (options : Options) {theirs : List Effect} (turns more : List Transition) → SideKnown reset_calls options theirs (turns ++ more) → AlongTurns (IsUnrefused reset_calls.in_turn) (endpoint_after options turns) more
+rest_refused reset_calls options turns more h = along_rest (IsUnrefused reset_calls.in_turn) (fresh_endpoint options) turns more h.refused
 
 pub rest_resets : (reset_calls : ResetCalls) (options : Options) {theirs : List Effect} (turns more : List Transition) → SideKnown reset_calls options theirs (turns ++ more) → ResetsThrough reset_calls (endpoint_after options turns) (queued_through (fresh_endpoint options) turns []) more
 rest_resets reset_calls options turns more h = resets_rest reset_calls (fresh_endpoint options) [] turns more h.resets

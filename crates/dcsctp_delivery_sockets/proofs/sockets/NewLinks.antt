@@ -1,6 +1,6 @@
 -- An association that begins in an act is of new tags, and its numbers fit their fields.
 use Rattle.std.proofs.Common.{◌≡◌, ◌≢◌, ◌⊎◌, ℕ, Bool, true, false, ◌-◌, ◌^◌, List, [], ◌∷◌, ◌++◌, refl, sym, ap, subst, inl, inr, ◌∙◌}
-use Rattle.std.specs.Prelude.{Some, Option, None, ◌⊎◌, Bool}
+use Rattle.std.specs.Prelude.{Some, Option, None, ◌⊎◌, Bool, false}
 use Rattle.dcsctp_spec_lemmas.specs.types.declared.association.Pair.{Pair}
 use Rattle.dcsctp_spec_lemmas.specs.types.declared.options.Options.{Options}
 use Rattle.dcsctp_spec_lemmas.specs.spec.endpoint.CallTurns.{Transition, AlongTurns, effects_of}
@@ -157,11 +157,11 @@ after_first first rest past = after_effects-append first rest past
 abbrev pub AllPerformed : List Effect → List Effect → Type 0
 AllPerformed past their_past = (my : Pair) (number : ℕ) → HasEffect (completes my number) past → WasPerformed my number their_past ⊎ (number ≡ request_numbered my.first_tsn (2 ^ 32 - 1))
 
-pub new_peers : (options their_options : Options) (their_past : List Effect) (turns : List Transition) (past : List Effect) (e : Endpoint) → RanTo options e past → StandsSo e past → AreTurns e turns → AreCalls turns → AlongTurns IsUnrefused e turns
+pub new_peers : (in_turn : Bool) (options their_options : Options) (their_past : List Effect) (turns : List Transition) (past : List Effect) (e : Endpoint) → RanTo options e past → StandsSo e past → AreTurns e turns → AreCalls turns → AlongTurns (IsUnrefused in_turn) e turns
     → AlongTurns IsMove e turns → AllOpenFitting turns → AllEcho turns → Each (IsOfNewTagsBut options their_past) (after_effects (effects_of turns) past) → MatchOrUnmatched options their_options (after_effects (effects_of turns) past) their_past
-    → AllPerformed (after_effects (effects_of turns) past) their_past → AllFound (after_effects (effects_of turns) past) their_past → NoneRestored (after_effects (effects_of turns) past) → AreNewPeers past their_past e turns
-new_peers options their_options their_past [] past e ran stands taken calls unrefused along opens makers each matched performed found restored = tt
-new_peers options their_options their_past (t ∷ turns) past e ran stands taken calls unrefused along opens makers each matched performed found restored =
+    → AllPerformed (after_effects (effects_of turns) past) their_past → AllFound (after_effects (effects_of turns) past) their_past → NoneRestored (after_effects (effects_of turns) past) → AreNewPeers in_turn past their_past e turns
+new_peers in_turn options their_options their_past [] past e ran stands taken calls unrefused along opens makers each matched performed found restored = tt
+new_peers in_turn options their_options their_past (t ∷ turns) past e ran stands taken calls unrefused along opens makers each matched performed found restored =
     let split = after_first t.outcome.effects (effects_of turns) past in
     let later : AllPerformed (after_effects (effects_of turns) (after_effects t.outcome.effects past)) their_past = subst (λ (p : List Effect). AllPerformed p their_past) split performed in
     let none' : NoneRestored (after_effects (effects_of turns) (after_effects t.outcome.effects past)) = subst NoneRestored split restored in (
@@ -172,7 +172,7 @@ new_peers options their_options their_past (t ∷ turns) past e ran stands taken
       unrefused.0,
       (λ my number has. later my number (after_within (effects_of turns) (after_effects t.outcome.effects past) (completes my number) (among_after (completes my number) t.outcome.effects past has))),
       same_rules e t.outcome along.0,
-      new_peers options their_options their_past turns (after_effects t.outcome.effects past) t.outcome.after (next_run options e past t ran along.0) (stands_after past t turns e stands taken calls along opens none') taken.1 calls.1 unrefused.1 along.1 opens.1
+      new_peers in_turn options their_options their_past turns (after_effects t.outcome.effects past) t.outcome.after (next_run options e past t ran along.0) (stands_after past t turns e stands taken calls along opens none') taken.1 calls.1 unrefused.1 along.1 opens.1
           makers.1 (subst (Each (IsOfNewTagsBut options their_past)) split each) (subst (λ (p : List Effect). MatchOrUnmatched options their_options p their_past) split matched) later
           (subst (λ (p : List Effect). AllFound p their_past) split found) none',
     )

@@ -103,8 +103,8 @@ pub sender_more : (reset_calls : ResetCalls) (mine theirs : Options) (turns othe
 sender_more reset_calls mine theirs turns others more h known matched stands performed found restored calls opens makers back =
     let e : Endpoint = endpoint_after mine turns in
     let past : List Effect = recorded_past turns in
-    let new : AreNewPeers past (recorded_past others) e more =
-    new_peers mine theirs (recorded_past others) more past e (ran_front reset_calls mine turns more known) stands (rest_turns reset_calls mine turns more known) calls (rest_refused reset_calls mine turns more known) (rest_moves reset_calls mine turns more known) opens makers
+    let new : AreNewPeers reset_calls.in_turn past (recorded_past others) e more =
+    new_peers reset_calls.in_turn mine theirs (recorded_past others) more past e (ran_front reset_calls mine turns more known) stands (rest_turns reset_calls mine turns more known) calls (rest_refused reset_calls mine turns more known) (rest_moves reset_calls mine turns more known) opens makers
     (subst (Each (IsOfNewTagsBut mine (recorded_past others))) (past_more turns more) known.tags)
     (subst (λ (p : List Effect). MatchOrUnmatched mine theirs p (recorded_past others)) (past_more turns more) matched)
     (subst (λ (p : List Effect). AllPerformed p (recorded_past others)) (past_more turns more) performed)

@@ -1,5 +1,6 @@
 -- What a RE-CONFIG does before all else, as steps of both sides: our request ends, and streams of the
 -- peer are reset.
+use Rattle.std.specs.Prelude.{◌||◌}
 use Rattle.dcsctp_delivery_directions.specs.directions.Directions as directions
 use Rattle.std.proofs.Common.{◌≡◌, ◌≤◌, ◌+◌, ◌%◌, ◌^◌, ℕ, suc, Bool, true, false, Option, None, Some, List, ◌∷◌, length, refl, sym, ◌∙◌, ap, subst, arith, inl, inr}
 use Rattle.dcsctp_spec_lemmas.specs.spec.Packet.{Content, re_config}
@@ -104,7 +105,7 @@ pub record SendingFront (first : ℕ) (direction : Direction) (happened : List E
   pub steps : DirectionSteps (sending_by direction old direction.asking) (sending_by direction new asking)
 
 own_ends_send : (first : ℕ) (direction : Direction) (happened : List Effect) (old new : Inside) → OwnEnds happened old new → AsksFit first old.own direction.asking
-    → (has_completed happened ≡ true → old.queues.queue.is_interleaved ≡ true → direction.asking.is_performed ≡ true) → (old.queues.queue.is_interleaved ≡ true → has_refused happened ≡ false) → SendingFront first direction happened old new
+    → (has_completed happened ≡ true → (old.queues.queue.is_interleaved || direction.beginning.in_turn) ≡ true → direction.asking.is_performed ≡ true) → ((old.queues.queue.is_interleaved || direction.beginning.in_turn) ≡ true → has_refused happened ≡ false) → SendingFront first direction happened old new
 own_ends_send first direction happened old _ unended fits performed refuses = record { asking = direction.asking; between = as_it_was; kind = refl; fits = fits; steps = stays }
 own_ends_send first direction happened old _ (committed completed own is) fits performed refuses =
     let asks = is_asking first old.own own direction.asking is fits in
@@ -122,10 +123,10 @@ own_ends_send first direction happened old _ (rolled_back refused own is) fits p
       between = once_refused refused;
       kind = refl;
       fits = ended_fits first own direction.asking (is_asking first old.own own direction.asking is fits);
-      steps = one_step (sending_by direction old direction.asking) _ (directions.rolls_back (unmixed old.queues.queue.is_interleaved refl));
+      steps = one_step (sending_by direction old direction.asking) _ (directions.rolls_back (unmixed (old.queues.queue.is_interleaved || direction.beginning.in_turn) refl));
     }
   where
-    unmixed : (b : Bool) → old.queues.queue.is_interleaved ≡ b → old.queues.queue.is_interleaved ≡ false
+    unmixed : (b : Bool) → (old.queues.queue.is_interleaved || direction.beginning.in_turn) ≡ b → (old.queues.queue.is_interleaved || direction.beginning.in_turn) ≡ false
     unmixed true is = absurd (let clash : true ≡ false = sym refused ∙ refuses is in cc)
     unmixed false is = is
 
@@ -138,7 +139,7 @@ peer_resets_send came direction happened old _ asking (reset_now some parameters
     one_step (sending_by direction old asking) _ (directions.turns_aside transfer _ known (record { outstanding = refl; reset_begun = refl }))
 
 pub front_sends : (came : Option Content) (first : ℕ) (direction : Direction) (happened : List Effect) (old between new : Inside) → OwnEnds happened old between → PeerResets came happened between new
-    → AsksFit first old.own direction.asking → (has_completed happened ≡ true → old.queues.queue.is_interleaved ≡ true → direction.asking.is_performed ≡ true) → (old.queues.queue.is_interleaved ≡ true → has_refused happened ≡ false) → SendingFront first direction happened old new
+    → AsksFit first old.own direction.asking → (has_completed happened ≡ true → (old.queues.queue.is_interleaved || direction.beginning.in_turn) ≡ true → direction.asking.is_performed ≡ true) → ((old.queues.queue.is_interleaved || direction.beginning.in_turn) ≡ true → has_refused happened ≡ false) → SendingFront first direction happened old new
 front_sends came first direction happened old between new own peer fits performed refuses =
     let ended = own_ends_send first direction happened old between own fits performed refuses in
     record {

@@ -83,7 +83,7 @@ pub record OpensKept (e : Endpoint) (input : Input) (o : Outcome) (collision : C
 module _ (e : Endpoint) (input : Input) (o : Outcome) (collision : Collides (content_of_input input) e o) (small : collision.opened.link.my.first_tsn < 2 ^ 32) (again : RequestedReset)
     (makes : MakesPackets (content_of_input input) collision.opened.link.peer.tag (kept_inside collision again) (packets_of_events o.events) (inside o.after)) where
   abbrev nothing_sent : Direction
-  nothing_sent = new_direction e.options 0 0 [] (record { queue = empty_queue e.options; transfer = None }) 0 [] (record { from_zero = false; has_all = false; keeps = λ id. false; asks = λ id count. false; empties = λ id count. false })
+  nothing_sent = new_direction e.options 0 0 [] (record { queue = empty_queue e.options; transfer = None }) 0 [] (record { from_zero = false; has_all = false; keeps = λ id. false; asks = λ id count. false; empties = λ id count. false; in_turn = false })
 
   made : (read : List MessageContent) → LeadsToLedger (content_of_input input) collision.opened.link.peer.tag (ledger_of [] (kept_inside collision again).queues [] read nothing_asked) collision.opened.link.my.first_tsn (inside o.after) (exchange_of [] ([] ++ packets_of_events o.events) read)
   made read = makes [] [] read collision.opened.link.my.first_tsn nothing_asked (nothing_fits collision.opened.link.my.first_tsn again small)

@@ -32,7 +32,7 @@ use Rattle.dcsctp_delivery_sockets.proofs.turns.Beginnings.{nothing_fits, unlink
 use Rattle.dcsctp_delivery_sockets.proofs.turns.Outlasts.{collided_opens}
 
 abbrev empty_direction : Options → Direction
-empty_direction options = new_direction options 0 0 [] (record { queue = empty_queue options; transfer = None }) 0 [] (record { from_zero = false; has_all = false; keeps = λ id. false; asks = λ id count. false; empties = λ id count. false })
+empty_direction options = new_direction options 0 0 [] (record { queue = empty_queue options; transfer = None }) 0 [] (record { from_zero = false; has_all = false; keeps = λ id. false; asks = λ id count. false; empties = λ id count. false; in_turn = false })
 
 module _ (e : Endpoint) (input : Input) (o : Outcome) (small : OpensSmall e input o) where
   -- An association that begins, with nothing begun to be reset.

@@ -9,13 +9,13 @@ use Rattle.dcsctp_delivery_sockets.proofs.turns.SenderRuns.{sender_becomes, send
 use Rattle.dcsctp_delivery_sockets.proofs.turns.ReceiverRuns.{idle_becomes, receiver_becomes}
 
 pub senders_begin : SendersBegin
-senders_begin mine options first size keeps asks empties =
-    anew_runs options first size [] (record { queue = empty_queue mine; transfer = None }) (record { from_zero = true; has_all = true; keeps = keeps; asks = asks; empties = empties }) tt (fresh_waits mine) tt
+senders_begin mine options first size keeps asks empties in_turn =
+    anew_runs options first size [] (record { queue = empty_queue mine; transfer = None }) (record { from_zero = true; has_all = true; keeps = keeps; asks = asks; empties = empties; in_turn = in_turn }) tt (fresh_waits mine) tt
     (record { zero = λ is. fresh_at_zero mine; whole = λ is id. record { waits = λ place message at. absurd (cc); unpaused = tt }; all = λ id is. record { waits = λ place message at. absurd (cc); unpaused = tt } })
 
 pub begins_anew : SendersBeginAgain
-begins_anew options first size asks empties queued below fit queues none =
-    anew_runs options first size queued below (record { from_zero = false; has_all = false; keeps = λ id. false; asks = asks; empties = empties }) fit queues (subst (directions.NoneInFlight first below.queue) (sym none) tt) (record { zero = λ is. absurd (cc); whole = λ is. absurd (cc); all = λ id is. absurd (cc) })
+begins_anew options first size asks empties in_turn queued below fit queues none =
+    anew_runs options first size queued below (record { from_zero = false; has_all = false; keeps = λ id. false; asks = asks; empties = empties; in_turn = in_turn }) fit queues (subst (directions.NoneInFlight first below.queue) (sym none) tt) (record { zero = λ is. absurd (cc); whole = λ is. absurd (cc); all = λ id is. absurd (cc) })
 
 pub senders_go_on : SendersGoOn
 senders_go_on options first size direction e input o run small same rules fits performed refuses drops opens told few may turn =

@@ -36,7 +36,7 @@ use Rattle.dcsctp_delivery_sockets.proofs.turns.Rests.{begun_rests}
 use Rattle.dcsctp_delivery_sockets.proofs.turns.Turns.{Prepares, accepted_is}
 
 module _ (options : Options) (first size : ℕ) (direction : Direction) (e : Endpoint) (input : Input) (o : Outcome) (run : DirectionRun options first size direction) (small : first < 2 ^ 32) (same : direction.queues ≡ e.queues) (rules : TakesTurnsByOption e)
-    (fits : AsksFit first (own_of e) direction.asking) (performed : EndsPerformed e o direction.asking) (refuses : RefusesNone e o) (drops : MayDrop e input (length direction.queued) direction.beginning) (opens : OpensSmall e input o) (told : IsTrueAcknowledgement direction e input) (few : length (queued_after e input direction.queued) < 2 ^ 64) where
+    (fits : AsksFit first (own_of e) direction.asking) (performed : EndsPerformed direction.beginning.in_turn e o direction.asking) (refuses : RefusesNone direction.beginning.in_turn e o) (drops : MayDrop e input (length direction.queued) direction.beginning) (opens : OpensSmall e input o) (told : IsTrueAcknowledgement direction e input) (few : length (queued_after e input direction.queued) < 2 ^ 64) where
   both : QueueWaits direction.queued direction.queues.queue × AllByRecursion Fits direction.queued
   both = direction_queues options first size direction run small (let more = input_more e input direction.queued in omega (arith, few, more))
 

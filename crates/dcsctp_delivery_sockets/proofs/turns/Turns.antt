@@ -12,7 +12,7 @@ use Rattle.std.specs.List.{AllByRecursion}
 use Rattle.dcsctp_spec_lemmas.specs.spec.endpoint.Event.{packets_of_events}
 use Rattle.dcsctp_spec_lemmas.specs.spec.endpoint.PreparedResets.{ResetRefusal, refusal_of_peer, reset_refusal, PreparesUnlessRefused}
 use Rattle.dcsctp_spec_lemmas.specs.spec.association.Effect.{identity_of_core}
-use Rattle.dcsctp_delivery_sockets.specs.turns.Runs.{accepted_by, accepted_resets}
+use Rattle.dcsctp_delivery_sockets.specs.turns.Runs.{accepted_streams, accepted_resets}
 use Rattle.dcsctp_delivery_sockets.specs.turns.Actions.{MakesAlso, IsCalm, inside, Becomes, resets_streams, streams_user_resets, goes_on, pauses, prepared_inside, content_of_input, queued_after, read_after, IsCall, peer_tag}
 use Rattle.dcsctp_delivery_sockets.specs.turns.Tags.{IsPeerTag}
 use Rattle.dcsctp_delivery_sockets.proofs.turns.Actions.{Goes, rests, action_of}
@@ -73,7 +73,7 @@ pub record Prepares (e : Endpoint) (input : Input) (o : Outcome) (ids : List ℕ
   pub linked : identity_of_core o.after.core ≡ identity_of_core e.core
   pub makes : MakesAlso (content_of_input input) (peer_tag e.core) (queued_after e input) (read_after e input) (prepared_inside ids (inside e)) (packets_of_events o.events) (inside o.after)
 
-prepares_where : (found : Option ResetRefusal) (e : Endpoint) (named ids : List ℕ) (o : Outcome) → reset_refusal e ≡ found → AllByRecursion (λ id. id < 2 ^ 16) named → PreparesUnlessRefused found e named o → accepted_by found named ≡ Some ids → Prepares e (user_resets named) o ids
+prepares_where : (found : Option ResetRefusal) (e : Endpoint) (named ids : List ℕ) (o : Outcome) → reset_refusal e ≡ found → AllByRecursion (λ id. id < 2 ^ 16) named → PreparesUnlessRefused found e named o → accepted_streams found named ≡ Some ids → Prepares e (user_resets named) o ids
 prepares_where None e named ids o is may turn same =
     let one : named ≡ ids = cc in
     subst (Prepares e (user_resets named) o) one (let made = resets_prepare None none_calm (peer_tag e.core) e named o (own_peer e.core) turn in record { resets = refl; accepted = is; small = may; linked = made.0; makes = made.1 })
@@ -89,7 +89,7 @@ accepted_is e packet_ends ids is accepted = absurd (cc)
 accepted_is e (act_input act) ids is accepted = absurd (cc)
 accepted_is e (user_sets setting) ids is accepted = absurd (cc)
 accepted_is e (user_sends messages) ids is accepted = absurd (cc)
-accepted_is e (user_resets named) ids is accepted = ap (λ (found : Option ResetRefusal). accepted_by found named) accepted ∙ is
+accepted_is e (user_resets named) ids is accepted = ap (λ (found : Option ResetRefusal). accepted_streams found named) accepted ∙ is
 accepted_is e user_takes ids is accepted = absurd (cc)
 accepted_is e (timer_expires timer) ids is accepted = absurd (cc)
 accepted_is e (time_passes moment) ids is accepted = absurd (cc)
@@ -107,7 +107,7 @@ accepted_linked e (user_sets setting) ids is none = cc
 accepted_linked e (user_sends messages) ids is none = cc
 accepted_linked e (user_resets named) ids is none = by_core e.core none is
   where
-    by_core : (core : Core) → identity_of_core core ≡ None → accepted_by (refusal_of_peer (held_by_core core)) named ≡ Some ids → ⊥
+    by_core : (core : Core) → identity_of_core core ≡ None → accepted_streams (refusal_of_peer (held_by_core core)) named ≡ Some ids → ⊥
     by_core closed unlinked accepted = cc
     by_core (cookie_wait my) unlinked accepted = cc
     by_core (cookie_echoed my held cookie) unlinked accepted = cc

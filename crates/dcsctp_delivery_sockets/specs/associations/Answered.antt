@@ -1,6 +1,6 @@
 -- What becomes of the sender's requests to reset streams (RFC 6525, section 5.2), in all
 -- associations of both sides.
-use Rattle.std.specs.Prelude.{◌≡◌, ◌≢◌, ◌⊎◌, ◌<◌, ◌≤◌, ◌+◌, ◌%◌, ◌^◌, ℕ, suc, Bool, true, false, Option, None, Some, List, [], ◌∷◌, length}
+use Rattle.std.specs.Prelude.{◌≡◌, ◌≢◌, ◌⊎◌, ◌<◌, ◌≤◌, ◌+◌, ◌%◌, ◌^◌, ℕ, suc, Bool, true, false, Option, None, Some, List, [], ◌∷◌, length, ◌||◌}
 use Rattle.dcsctp_spec_lemmas.specs.types.declared.association.Pair.{Pair}
 use Rattle.dcsctp_spec_runs.specs.Past.{WasPerformed, HasEffect, number_to_accept, number_to_perform}
 use Rattle.dcsctp_spec_lemmas.specs.spec.Reconfiguration.{RequestedReset, renewed_reset}
@@ -16,12 +16,13 @@ use Rattle.dcsctp_delivery_sockets.specs.associations.Ends.{Ends}
 
 -- ---- one association
 
--- The requests that the sender has begun in an association: its own pair there, and whether messages interleave.
+-- The requests that the sender has begun in an association: its own pair there, and whether they end in turn, as they do with
+-- interleaving.
 pub record Requests : Type 0 where
   pub my : Pair
   pub first : ℕ
   pub asking : Asking
-  pub is_interleaved : Bool
+  pub in_turn : Bool
 
 -- the number of the request at this place: the first is at 0
 abbrev pub request_numbered : ℕ → ℕ → ℕ
@@ -56,20 +57,20 @@ pub record WasJoined (their_past : List Effect) (tag : ℕ) (my : Pair) : Type 0
 pub record AreAsked (requests : Requests) (their_past : List Effect) : Type 0 where
   pub numbers : AreNumbered requests.first requests.asking.requests
   pub out : requests.asking.out ≤ 1
-  -- With interleaving the receiver has performed the newest if it has an end,
-  pub ended : requests.is_interleaved ≡ true → requests.asking.out ≡ 0 → (place : ℕ) → suc place ≡ length requests.asking.requests → WasPerformed requests.my (request_numbered requests.first place) their_past
+  -- In turn the receiver has performed the newest if it has an end,
+  pub ended : requests.in_turn ≡ true → requests.asking.out ≡ 0 → (place : ℕ) → suc place ≡ length requests.asking.requests → WasPerformed requests.my (request_numbered requests.first place) their_past
   -- or if that is known;
-  pub performed_is : requests.is_interleaved ≡ true → requests.asking.is_performed ≡ true → (place : ℕ) → suc place ≡ length requests.asking.requests → WasPerformed requests.my (request_numbered requests.first place) their_past
+  pub performed_is : requests.in_turn ≡ true → requests.asking.is_performed ≡ true → (place : ℕ) → suc place ≡ length requests.asking.requests → WasPerformed requests.my (request_numbered requests.first place) their_past
   -- and it has performed one, or all want the same.
-  pub some_performed : requests.is_interleaved ≡ true → (newest : BegunReset) (earlier : List BegunReset) → requests.asking.requests ≡ newest ∷ earlier
+  pub some_performed : requests.in_turn ≡ true → (newest : BegunReset) (earlier : List BegunReset) → requests.asking.requests ≡ newest ∷ earlier
       → ((number : ℕ) × WasPerformed requests.my number their_past) ⊎ WantFrom 0 newest.reset requests.asking.requests
 
--- The number is that of a request. With interleaving it is known whether the newest was performed.
+-- The number is that of a request. In turn it is known whether the newest was performed.
 pub record IsRequestNumber (requests : Requests) (number : ℕ) : Type 0 where
   pub place : ℕ
   pub below : place < length requests.asking.requests
   pub is : number ≡ request_numbered requests.first place
-  pub newest : requests.is_interleaved ≡ true → suc place ≡ length requests.asking.requests → requests.asking.is_performed ≡ true
+  pub newest : requests.in_turn ≡ true → suc place ≡ length requests.asking.requests → requests.asking.is_performed ≡ true
 
 -- This holds for each that the receiver has performed.
 abbrev pub WerePerformed : Requests → List Effect → Type 0
@@ -89,10 +90,10 @@ pub data IsInStep (requests : Requests) (their_past : List Effect) (waits : Opti
       → number_to_accept their_past ≡ Some (request_numbered requests.first (suc place)) → number_to_perform their_past ≡ Some (request_numbered requests.first place) → IsOwn newest.reset waits → requests.asking.is_performed ≡ false
       → IsInStep requests their_past waits
 
--- The receiver is in step; or messages don't interleave, and a request was begun.
+-- The receiver is in step; or requests don't end in turn, and one was begun.
 pub data StandsSo (requests : Requests) (their_past : List Effect) (waits : Option DeferralModel) : Type 0 where
   in_step : IsInStep requests their_past waits → StandsSo requests their_past waits
-  plain : requests.is_interleaved ≡ false → (requests.asking.requests ≡ [] → ⊥) → StandsSo requests their_past waits
+  plain : requests.in_turn ≡ false → (requests.asking.requests ≡ [] → ⊥) → StandsSo requests their_past waits
 
 -- ---- all of them
 
@@ -113,7 +114,7 @@ pub record AnswersRequests (requests : ℕ → Requests) (mine : Option Associat
 -- those of both ends
 abbrev pub requests_of : Ends → (ℕ → Pair) → ℕ → Requests
 requests_of ends pairs tag =
-    record { my = pairs tag; first = ends.firsts tag; asking = (ends.sends tag).asking; is_interleaved = (ends.sends tag).queues.queue.is_interleaved }
+    record { my = pairs tag; first = ends.firsts tag; asking = (ends.sends tag).asking; in_turn = (ends.sends tag).queues.queue.is_interleaved || ends.calls.in_turn }
 
 -- the reset that waits
 abbrev pub waiting_deferral : Option Transfer → Option DeferralModel

@@ -82,6 +82,8 @@ pub record ResetCalls : Type 0 where
   pub asks : ℕ → ℕ → Bool
   pub empties : ℕ → ℕ → Bool
   pub made : List PreparedReset
+  -- Does none of its requests fail, without interleaving either?
+  pub in_turn : Bool
 
 -- once this turn was taken, if so many messages were queued before it
 abbrev pub calls_after : Endpoint → Input → ℕ → ResetCalls → ResetCalls
@@ -178,6 +180,7 @@ pub record KeepsOnlyThese (calls : ResetCalls) (beginning : Beginning) : Type 0 
   pub dropped : (id : ℕ) → calls.never id ≡ false → beginning.keeps id ≡ false
   pub asks : beginning.asks ≡ calls.asks
   pub empties : beginning.empties ≡ calls.empties
+  pub in_turn : beginning.in_turn ≡ calls.in_turn
 
 -- Nothing was sent at this end yet.
 pub record Awaits (sends : SendingEnd) : Type 0 where
@@ -296,7 +299,7 @@ pub record WasReset (gets : ℕ → ReceivingEnd) (past : List Effect) (report :
   pub was_of : AreOfLink past report.tags
 
 -- The user was told of the reset, in an association whose peer has this tag.
-pub record WasTold (resets : List ReportedReset) (tag : ℕ) (reset : PerformedReset) : Type 0 where
+pub record WasReported (resets : List ReportedReset) (tag : ℕ) (reset : PerformedReset) : Type 0 where
   pub report : ReportedReset
   pub has : places.HasEntry report resets
   pub reset_is : report.reset ≡ reset
@@ -310,7 +313,7 @@ pub record Receiver (options : Options) (ends : Ends) (e : Endpoint) (past : Lis
   pub were_read : (tag : ℕ) → with_key tag reading.reads ≡ (ends.gets tag).read
   pub were_reset : (report : ReportedReset) → places.HasEntry report reading.resets → WasReset ends.gets past report
   -- A reset that comes again under the next number isn't reported again, with `follow_rfc`.
-  pub were_told : options.follow_rfc ≡ false → (tag : ℕ) (reset : PerformedReset) → places.HasEntry reset (ends.gets tag).performed → WasTold reading.resets tag reset
+  pub were_told : options.follow_rfc ≡ false → (tag : ℕ) (reset : PerformedReset) → places.HasEntry reset (ends.gets tag).performed → WasReported reading.resets tag reset
   pub begun : (tag : ℕ) → (ends.gets tag ≡ new_end options (ends.firsts tag)) ⊎ HadTag past tag (ends.firsts tag)
   pub last_of : AreOfLink past reading.last
   pub reads_of : AllOfLinks past reading.reads
@@ -344,7 +347,7 @@ unbegun_end options =
       sent = [];
       asking = nothing_asked;
       prepared = [];
-      beginning = record { from_zero = true; has_all = true; keeps = λ id. false; asks = λ id count. false; empties = λ id count. false };
+      beginning = record { from_zero = true; has_all = true; keeps = λ id. false; asks = λ id count. false; empties = λ id count. false; in_turn = false };
     }
 
 -- What was received from a tag whose associations don't cross needs no sender.

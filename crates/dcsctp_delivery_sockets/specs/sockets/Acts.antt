@@ -1,5 +1,5 @@
 -- What two sockets do one after another, and all their associations.
-use Rattle.std.specs.Prelude.{◌≡◌, ◌⊎◌, ◌<◌, ◌^◌, ℕ, Some, List, [], ◌∷◌, ◌++◌, length}
+use Rattle.std.specs.Prelude.{◌≡◌, ◌⊎◌, ◌<◌, ◌^◌, ℕ, Some, List, [], ◌∷◌, ◌++◌, length, Bool}
 use Rattle.std.specs.List.{AllByRecursion}
 use Rattle.dcsctp_spec_lemmas.specs.wire.Content.{PacketContent}
 use Rattle.dcsctp_spec_lemmas.specs.wire.Format.{IsPacket}
@@ -45,17 +45,17 @@ AreTurns e [] = Unit {0}
 AreTurns e (turn ∷ turns) = Turn e turn.input turn.outcome × AreTurns turn.outcome.after turns
 
 -- Each input is a call, a timer or a chunk; and an association that begins has a new own tag, or takes the place of the one that is there.
--- With interleaving no own request to reset streams fails. Each that ends as performed was performed at the other side, or it is the
--- 2^32nd of its association. `follow_rfc` stays.
-abbrev pub AreNewPeers : List Effect → List Effect → Endpoint → List Transition → Type 0
-AreNewPeers past their_past e [] = Unit {0}
-AreNewPeers past their_past e (turn ∷ turns) =
+-- With interleaving, or in turn, no own request to reset streams fails. Each that ends as performed was performed at the other
+-- side, or it is the 2^32nd of its association. `follow_rfc` stays.
+abbrev pub AreNewPeers : Bool → List Effect → List Effect → Endpoint → List Transition → Type 0
+AreNewPeers in_turn past their_past e [] = Unit {0}
+AreNewPeers in_turn past their_past e (turn ∷ turns) =
     IsCall turn.input
     × ((begun : BeginsAssociation e turn.outcome) → IsOpening (content_of_input turn.input) → identity_of_core turn.outcome.after.core ≡ Some (identity_of begun.my begun.held) → NewPeer past their_past (identity_of begun.my begun.held) ⊎ TakesOver past their_past e turn.input (identity_of begun.my begun.held))
-    × RefusesNone e turn.outcome
+    × RefusesNone in_turn e turn.outcome
     × CompletesPerformed their_past turn.outcome
     × (turn.outcome.after.options.follow_rfc ≡ e.options.follow_rfc)
-    × AreNewPeers (after_effects turn.outcome.effects past) their_past turn.outcome.after turns
+    × AreNewPeers in_turn (after_effects turn.outcome.effects past) their_past turn.outcome.after turns
 
 -- The user resets streams by these turns as it does, if these messages were queued before.
 abbrev pub ResetsThrough : ResetCalls → Endpoint → List Message → List Transition → Type 0
@@ -71,7 +71,7 @@ abbrev pub SendersAct : Type 0
 SendersAct =
     (seen : List (Event Emission)) (options : Options) (ends : Ends) (e : Endpoint) (queued : List Message) (past : List Effect) (packets : List Emission) (other : Endpoint) (their_past : List Effect) (reading : Reading) (turns : List Transition)
     → Between options ends (sending_side e queued past packets) (receiving_side other their_past reading) → AreAnswered ends e past other their_past → AreSeen ends other their_past seen → AreTurns e turns
-    → ResetsThrough ends.calls e queued turns → AlongTurns (HearsBack (packets_of_events seen)) e turns → AreNewPeers past their_past e turns → length (queued_through e turns queued) < 2 ^ 64
+    → ResetsThrough ends.calls e queued turns → AlongTurns (HearsBack (packets_of_events seen)) e turns → AreNewPeers ends.calls.in_turn past their_past e turns → length (queued_through e turns queued) < 2 ^ 64
     → AsksLittle (packets ++ packets_of_events (events_of turns))
     → AreEnds (calls_through e turns queued ends.calls) seen options (sending_side (after_all e turns) (queued_through e turns queued) (after_effects (effects_of turns) past) (packets ++ packets_of_events (events_of turns))) (receiving_side other their_past reading)
 

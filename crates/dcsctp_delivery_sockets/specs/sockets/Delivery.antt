@@ -1,6 +1,7 @@
 -- What a user reads is what its peer's user sent, over every list of honest acts of two sockets,
 -- with interleaving or without.
-use Rattle.std.specs.Prelude.{◌≡◌, ◌≢◌, ◌⊎◌, ◌<◌, ◌-◌, ◌^◌, ℕ, List, length, map, true, false, Some, ◌+◌}
+use Rattle.dcsctp_delivery_sockets.specs.sockets.Split.{IsSplitByResets}
+use Rattle.std.specs.Prelude.{◌≡◌, ◌≢◌, ◌⊎◌, ◌<◌, ◌-◌, ◌^◌, ℕ, List, length, map, true, Some, ◌+◌, false, Bool}
 use Rattle.std.specs.List.{AllByRecursion}
 use Rattle.dcsctp_spec_lemmas.specs.types.declared.options.Options.{Options}
 use Rattle.dcsctp_spec_lemmas.specs.types.declared.schedule.Side.{Side}
@@ -131,13 +132,18 @@ SendsLittleTogether turns =
 
 -- ---- with interleaving
 
--- In an association with interleaving no request of its own to reset streams fails in this turn (OnStreamsResetFailed).
-abbrev pub IsUnrefused : Endpoint → Transition → Type 0
-IsUnrefused e turn = RefusesNone e turn.outcome
+-- In an association with interleaving no request of its own to reset streams fails in this turn (OnStreamsResetFailed); or in any
+-- association.
+abbrev pub IsUnrefused : Bool → Endpoint → Transition → Type 0
+IsUnrefused in_turn e turn = RefusesNone in_turn e turn.outcome
 
 -- This holds for each turn of both sides.
 abbrev pub NoneRefused : Both Options → Both (List Transition) → Type 0
-NoneRefused options turns = (side : Side) → AlongTurns IsUnrefused (fresh_endpoint (of_side side options)) (of_side side turns)
+NoneRefused options turns = (side : Side) → AlongTurns (IsUnrefused false) (fresh_endpoint (of_side side options)) (of_side side turns)
+
+-- And in none does one fail, with interleaving or without.
+abbrev pub NoneFails : Both Options → Both (List Transition) → Type 0
+NoneFails options turns = (side : Side) → AlongTurns (IsUnrefused true) (fresh_endpoint (of_side side options)) (of_side side turns)
 
 -- ---- resets of streams
 
@@ -162,7 +168,8 @@ pub record TurnsAllowDelivery (options : Both Options) (turns : Both (List Trans
 -- that waits or isn't acknowledged, and this side no message ready. Where messages interleave, other streams come in order besides. And each
 -- reset of streams that the other side's user was told is performed, this side's user was told of. With interleaving each reset that
 -- this side's user was told of separates what the other side's user sent before it asked for that from what it sent since; where the
--- other side had no other own tag, what is read of each stretch between two resets is a prefix of it, if it has no limits.
+-- other side had no other own tag, what is read of each stretch between two resets is a prefix of it, if it has no limits. Where
+-- no request to reset streams fails, on either side, each reset separates them without interleaving, too.
 pub record Delivers (options : Both Options) (turns : Both (List Transition)) (side : Side) : Type 0 where
   pub once : IsDelivered (messages_of_turns (fresh_endpoint (of_other side options)) (of_other side turns)) (read_of (fresh_endpoint (of_side side options)) (of_side side turns))
   pub in_order : (tag : ℕ) → AllowsOrder (of_other side options) (of_other side turns) tag
@@ -180,6 +187,9 @@ pub record Delivers (options : Both Options) (turns : Both (List Transition)) (s
   pub shared_resets : SharesResets (of_other side turns) (of_side side turns)
   pub by_epoch : (tag : ℕ) → StartsAtZero (of_other side options) (of_other side turns) → Interleaves (recorded_past (of_other side turns)) tag
       → IsDeliveredByEpoch (HasReset (of_other side options) (of_other side turns)) (ReportsPeerReset (of_side side options) (of_side side turns) tag)
+      (sendings_of_turns (fresh_endpoint (of_other side options)) (of_other side turns)) (read_under tag (of_side side options) (of_side side turns))
+  pub split : NoneFails options turns → (tag : ℕ) → StartsAtZero (of_other side options) (of_other side turns)
+      → IsSplitByResets (HasReset (of_other side options) (of_other side turns)) (ReportsPeerReset (of_side side options) (of_side side turns) tag)
       (sendings_of_turns (fresh_endpoint (of_other side options)) (of_other side turns)) (read_under tag (of_side side options) (of_side side turns))
   pub in_epochs : (tag : ℕ) → HasOneTag (recorded_past (of_other side turns)) → Interleaves (recorded_past (of_other side turns)) tag
       → IsDeliveredInEpochs ((of_side side options).follow_rfc ≡ false) (HasReset (of_other side options) (of_other side turns)) (ResetsWithNoneWaiting (of_other side options) (of_other side turns)) (ReportsPeerReset (of_side side options) (of_side side turns) tag)

@@ -1,5 +1,5 @@
 -- A turn of a socket, as what it does to runs of the two directions of its association.
-use Rattle.std.specs.Prelude.{◌≡◌, ◌⊎◌, ◌<◌, ◌+◌, ◌^◌, ℕ, Bool, true, false, Option, None, Some, List, [], ◌∷◌, ◌++◌, length}
+use Rattle.std.specs.Prelude.{◌≡◌, ◌⊎◌, ◌<◌, ◌+◌, ◌^◌, ℕ, Bool, true, false, Option, None, Some, List, [], ◌∷◌, ◌++◌, length, ◌||◌}
 use Rattle.dcsctp_spec_lemmas.specs.types.declared.options.Options.{Options}
 use Rattle.dcsctp_spec_lemmas.specs.spec.endpoint.Endpoint.{Endpoint}
 use Rattle.dcsctp_spec_lemmas.specs.spec.endpoint.Event.{packets_of_events}
@@ -28,7 +28,7 @@ use Rattle.dcsctp_delivery_sockets.specs.turns.Addressed.{AreAddressed}
 use Rattle.dcsctp_delivery_sockets.specs.turns.Reports.{ComesReported}
 use Rattle.dcsctp_delivery_directions.specs.sending.Queueing.{QueueWaits}
 use Rattle.dcsctp_delivery_sockets.specs.turns.Sides.{WasSent, receiving}
-use Rattle.dcsctp_delivery_directions.specs.directions.Directions.{MayReset, PerformedReset, PreparedReset, Direction, Beginning, HasReached, BeginsAs, Asking, nothing_asked, asking_renewed, all_ended, DirectionRun, IsAwaited}
+use Rattle.dcsctp_delivery_directions.specs.directions.Directions.{MayReset, PerformedReset, PreparedReset, Direction, Beginning, HasReached, BeginsAs, Asking, nothing_asked, asking_renewed, all_ended, DirectionRun, IsAwaited, is_in_turn}
 
 -- the direction, with this at its sender
 abbrev pub direction_with_sender : Direction → List Message → EndpointQueues → ℕ → List Emission → Asking → Direction
@@ -53,12 +53,12 @@ new_direction options first size queued sender_queues acknowledged sent beginnin
     }
 
 -- the streams that the user resets by a call, if it isn't refused
-abbrev pub accepted_by : Option ResetRefusal → List ℕ → Option (List ℕ)
-accepted_by None ids = Some ids
-accepted_by (Some refusal) ids = None
+abbrev pub accepted_streams : Option ResetRefusal → List ℕ → Option (List ℕ)
+accepted_streams None ids = Some ids
+accepted_streams (Some refusal) ids = None
 
 abbrev pub accepted_resets : Endpoint → Input → Option (List ℕ)
-accepted_resets e (user_resets ids) = accepted_by (reset_refusal e) ids
+accepted_resets e (user_resets ids) = accepted_streams (reset_refusal e) ids
 accepted_resets e input = None
 
 -- the calls by which the user has reset streams, newest first, with this one, when so many messages were queued
@@ -120,13 +120,13 @@ pub data SenderTurns (options : Options) (first size : ℕ) (direction : Directi
   run_outlasts : accepted_resets e input ≡ None → (collision : Collides (content_of_input input) e o) → queued_after e input direction.queued ≡ direction.queued
       → (first ≡ collision.opened.link.my.first_tsn → direction.asking ≡ nothing_asked → Outlasts options first size direction (taken_turn e input o) collision) → SenderTurns options first size direction e input o
 
--- Where the turn ends a request as performed, the receiver has performed the newest one, with interleaving.
-abbrev pub EndsPerformed : Endpoint → Outcome → Asking → Type 0
-EndsPerformed e o asking = has_completed o.effects ≡ true → e.queues.queue.is_interleaved ≡ true → asking.is_performed ≡ true
+-- Where the turn ends a request as performed, the receiver has performed the newest one, with interleaving or in turn.
+abbrev pub EndsPerformed : Bool → Endpoint → Outcome → Asking → Type 0
+EndsPerformed in_turn e o asking = has_completed o.effects ≡ true → (e.queues.queue.is_interleaved || in_turn) ≡ true → asking.is_performed ≡ true
 
--- In an association with interleaving no request of ours to reset streams fails.
-abbrev pub RefusesNone : Endpoint → Outcome → Type 0
-RefusesNone e o = e.queues.queue.is_interleaved ≡ true → has_refused o.effects ≡ false
+-- In an association with interleaving, or in turn, no request of ours to reset streams fails.
+abbrev pub RefusesNone : Bool → Endpoint → Outcome → Type 0
+RefusesNone in_turn e o = (e.queues.queue.is_interleaved || in_turn) ≡ true → has_refused o.effects ≡ false
 
 -- The streams that the user resets by it, if it isn't refused, may be reset when so many messages were queued.
 abbrev pub MayDrop : Endpoint → Input → ℕ → Beginning → Type 0
@@ -148,20 +148,20 @@ TakesTurnsByOption e = e.queues.queue.takes_turns ≡ e.options.follow_rfc
 abbrev pub SendersGoOn : Type 0
 SendersGoOn =
     (options : Options) (first size : ℕ) (direction : Direction) (e : Endpoint) (input : Input) (o : Outcome) → DirectionRun options first size direction → first < 2 ^ 32 → direction.queues ≡ e.queues → TakesTurnsByOption e
-    → AsksFit first (own_of e) direction.asking → EndsPerformed e o direction.asking → RefusesNone e o → MayDrop e input (length direction.queued) direction.beginning → OpensSmall e input o → IsTrueAcknowledgement direction e input
+    → AsksFit first (own_of e) direction.asking → EndsPerformed direction.beginning.in_turn e o direction.asking → RefusesNone direction.beginning.in_turn e o → MayDrop e input (length direction.queued) direction.beginning → OpensSmall e input o → IsTrueAcknowledgement direction e input
     → length (queued_after e input direction.queued) < 2 ^ 64 → IsCall input → Turn e input o → SenderTurns options first size direction e input o
 
 -- A run begins where the socket was just made, with number 0 on each stream and nothing queued,
 abbrev pub SendersBegin : Type 0
 SendersBegin =
-    (mine options : Options) (first size : ℕ) (keeps : ℕ → Bool) (asks empties : ℕ → ℕ → Bool)
-    → DirectionRun options first size (new_direction options first size [] (record { queue = empty_queue mine; transfer = None }) 0 [] (record { from_zero = true; has_all = true; keeps = keeps; asks = asks; empties = empties }))
+    (mine options : Options) (first size : ℕ) (keeps : ℕ → Bool) (asks empties : ℕ → ℕ → Bool) (in_turn : Bool)
+    → DirectionRun options first size (new_direction options first size [] (record { queue = empty_queue mine; transfer = None }) 0 [] (record { from_zero = true; has_all = true; keeps = keeps; asks = asks; empties = empties; in_turn = in_turn }))
 
 -- and where its association has ended.
 abbrev pub SendersBeginAgain : Type 0
 SendersBeginAgain =
-    (options : Options) (first size : ℕ) (asks empties : ℕ → ℕ → Bool) (queued : List Message) (sender_queues : EndpointQueues) → AllByRecursion Fits queued → QueueWaits queued sender_queues.queue → sender_queues.transfer ≡ None
-    → DirectionRun options first size (new_direction options first size queued sender_queues 0 [] (record { from_zero = false; has_all = false; keeps = λ id. false; asks = asks; empties = empties }))
+    (options : Options) (first size : ℕ) (asks empties : ℕ → ℕ → Bool) (in_turn : Bool) (queued : List Message) (sender_queues : EndpointQueues) → AllByRecursion Fits queued → QueueWaits queued sender_queues.queue → sender_queues.transfer ≡ None
+    → DirectionRun options first size (new_direction options first size queued sender_queues 0 [] (record { from_zero = false; has_all = false; keeps = λ id. false; asks = asks; empties = empties; in_turn = in_turn }))
 
 -- An association begins, and what its receiver does in the same turn are steps of a run. It waits for no reset.
 pub record OpensAssociation (e : Endpoint) (input : Input) (o : Outcome) : Type 0 where
@@ -192,10 +192,10 @@ PerformsNewest direction transfer came happened =
     has_reset happened ≡ true → (parameters : List ResetParameter) (reset : RequestedReset) → came ≡ Some (re_config parameters) → first_reset_request parameters ≡ Some reset
     → IsNewest direction transfer reset
 
--- So it is; or it wants what the newest wants, or messages don't interleave.
+-- So it is; or it wants what the newest wants, or requests don't end in turn.
 abbrev pub KnowsRequest : Bool → Direction → Transfer → Option Content → List Effect → Type 0
 KnowsRequest true direction transfer came happened = PerformsNewest direction transfer came happened
-KnowsRequest false direction transfer came happened = (direction.queues.queue.is_interleaved ≡ false) ⊎ PerformsNewest direction transfer came happened
+KnowsRequest false direction transfer came happened = (is_in_turn direction ≡ false) ⊎ PerformsNewest direction transfer came happened
 
 -- once a request was performed, if it is known to be the newest
 abbrev pub performed_if_reset : Bool → Bool → Asking → Asking
