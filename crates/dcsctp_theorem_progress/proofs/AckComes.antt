@@ -171,15 +171,15 @@ acknowledged wire side options v w there cookie bytes before settled settled' ea
 
 -- The COOKIE ECHO is under way.
 pub echo_connects : Wire → (side : Side) (options : Both Options) (v w : View) (cookie : Cookie) (bytes : List ℕ) (before : List (List ℕ)) (settled settled' : Both ℕ) (earlier run : List PerformedAct)
-    → EchoUnder v w.endpoint.options cookie bytes before → EchoFits v.endpoint.options w cookie → AckFits w.endpoint.options v cookie → TakesEcho w v.endpoint.options cookie bytes → KeepOf side options v w
+    → EchoUnder v w.endpoint.options cookie bytes before → EchoFits v.endpoint.options w cookie → AckFits w.endpoint.options v cookie → TakesEcho suc w v.endpoint.options cookie bytes → KeepOf side options v w
     → AtOf side options earlier v w → Settles settled side (length before) (length w.shown)
     → Exchanges options 2 settled earlier settled' run → SocketRun options run → JoinedBy side options run v w (suc v.told) (suc w.told)
 echo_connects wire side options v w cookie bytes before settled settled' earlier run under fits back_fits takes keep at counts rest runs =
     let a : Options = v.endpoint.options in
-    let Holds : List (List ℕ) → View → Type 0 = EchoComes a w cookie bytes under.more under.rest in
-    let along : HoldsAlong (of_other side options) Holds = echo_along wire a (of_other side options) w cookie bytes under.more under.rest (others_of side options v w keep) fits takes under.carried under.others in
+    let Holds : List (List ℕ) → View → Type 0 = EchoComes suc a w cookie bytes under.more under.rest in
+    let along : HoldsAlong (of_other side options) Holds = echo_along wire suc a (of_other side options) w cookie bytes under.more under.rest (others_of side options v w keep) fits takes under.carried under.others in
     let all : AllHanded side options rest.0 v Holds =
     all_handed side options settled Holds earlier rest.0 v w _ along at (record { before = before; shown = under.shown; mine = counts.mine; others = counts.others }) (to_come refl refl) rest.1
     (ran_exchanges options 1 _ rest.0 settled' run rest.2 runs) in
     acknowledged wire side options v w all.last cookie bytes before (counts_shown options (turns_after earlier)) settled' rest.0 run under back_fits
-    (echo_has_come a w cookie bytes under.more under.rest all.last all.holds) keep all.at (settles side options earlier v w at) rest.2 runs
+    (echo_has_come suc a w cookie bytes under.more under.rest all.last all.holds) keep all.at (settles side options earlier v w at) rest.2 runs

@@ -1,132 +1,30 @@
 -- A lost COOKIE ACK, and rounds in which the other's heartbeats are lost too.
 use Rattle.std.specs.Duration.{max_nanos}
-use Rattle.std.specs.Prelude.{nat_le}
-use Rattle.std.proofs.Common.{◌≡◌, ◌≤◌, ◌<◌, ℕ, zero, suc, Bool, true, false, List, [], ◌∷◌, refl, sym, subst, ap, ◌∙◌, arith}
-use Rattle.dcsctp_spec_lemmas.specs.types.Offer.{offer_of, negotiated_capabilities}
-use Rattle.dcsctp_spec_lemmas.specs.types.declared.association.Held.{Held}
-use Rattle.dcsctp_spec_lemmas.specs.types.declared.association.Pair.{Pair}
+use Rattle.std.proofs.Common.{◌≡◌, ◌≤◌, ◌<◌, ℕ, zero, suc, List, [], ◌∷◌, refl, sym, subst, ap, ◌∙◌, arith}
 use Rattle.dcsctp_spec_lemmas.specs.types.declared.options.Options.{Options}
 use Rattle.dcsctp_spec_lemmas.specs.types.declared.schedule.Side.{Side}
 use Rattle.dcsctp_spec_lemmas.specs.types.declared.schedule.Side.TheVariants as sides
-use Rattle.dcsctp_spec_lemmas.specs.spec.Cookie.{Cookie}
-use Rattle.dcsctp_spec_lemmas.specs.spec.association.HandshakeChanges.{new_held}
-use Rattle.dcsctp_spec_lemmas.specs.spec.queues.Transfer.{EndpointQueues}
-use Rattle.dcsctp_spec_lemmas.specs.spec.endpoint.CallTurns.{Transition, Turns}
-use Rattle.dcsctp_spec_lemmas.specs.spec.endpoint.Endpoint.{Endpoint, Core, cookie_echoed, open_in, established}
-use Rattle.dcsctp_spec_lemmas.specs.spec.endpoint.Outcome.{still}
-use Rattle.dcsctp_spec_lemmas.specs.spec.endpoint.OwnTimers.{acknowledgement_delay}
-use Rattle.dcsctp_spec_lemmas.specs.spec.endpoint.TimeTurns.{own_timer, t1_timer, handled_timers, timers_counted, deadline_of, delay_deadline, has_come, next_moment, ExpiryThen, ExpiryTurns, DueTurns, MomentTurns, TimeTurns, AdvanceTurns, TimePassesQuietly}
-use Rattle.dcsctp_spec_lemmas.specs.spec.endpoint.Turn.{time_passes, with_clock}
+use Rattle.dcsctp_spec_lemmas.specs.spec.endpoint.CallTurns.{Transition}
+use Rattle.dcsctp_spec_lemmas.specs.spec.endpoint.Endpoint.{Core}
+use Rattle.dcsctp_spec_lemmas.specs.spec.endpoint.TimeTurns.{t1_timer, timers_counted, next_moment, TimePassesQuietly}
 use Rattle.dcsctp_spec_runs.specs.Sockets.{PerformedAct, Both, turns_after, SocketRun}
 use Rattle.dcsctp_theorem_sockets.specs.Agreement.{AreUsable}
 use Rattle.dcsctp_theorem_sockets.specs.Handshake.{AreFitting}
-use Rattle.dcsctp_theorem_sockets.proofs.HandshakeReads.{turned_as}
-use Rattle.dcsctp_theorem_sockets.proofs.HandshakeTurns.{HandshakeLaws, Good}
+use Rattle.dcsctp_theorem_sockets.proofs.HandshakeTurns.{HandshakeLaws}
 use Rattle.dcsctp_theorem_progress.specs.Connecting.{connections_once_open}
-use Rattle.dcsctp_theorem_progress.specs.Cookies.{OwesNothing, HasEchoed, HadEcho, had}
+use Rattle.dcsctp_theorem_progress.specs.Cookies.{HasEchoed, HadEcho, had}
 use Rattle.dcsctp_theorem_progress.specs.Heartbeats.{OnlyBeats, LostAcksConnect}
-use Rattle.dcsctp_theorem_progress.specs.LostInits.{DueT1}
 use Rattle.dcsctp_theorem_progress.specs.Retries.{RetriesT1, t1_expiry}
 use Rattle.dcsctp_theorem_progress.specs.Rounds.{AdvancesBothClocks, LostRounds, QuietRound, counts_shown}
-use Rattle.dcsctp_theorem_progress.proofs.Beats.{Beats, Beaten, beaten, idle_still}
-use Rattle.dcsctp_theorem_progress.proofs.EchoLost.{EchoReady, after_again, quiet_echo}
-use Rattle.dcsctp_theorem_progress.proofs.EchoRound.{Echo, again}
-use Rattle.dcsctp_theorem_progress.proofs.EchoRuns.{repeats}
+use Rattle.dcsctp_theorem_progress.proofs.Beats.{Beaten, beaten}
+use Rattle.dcsctp_theorem_progress.proofs.EchoLost.{EchoReady, quiet_echo}
+use Rattle.dcsctp_theorem_progress.proofs.EchoRound.{Echo}
 use Rattle.dcsctp_theorem_progress.proofs.Facts.{Fit}
 use Rattle.dcsctp_theorem_progress.proofs.Handed.{keep_same}
 use Rattle.dcsctp_theorem_progress.proofs.Promise.{MovedOf, SettledBy, fit_of, lesser_of, moves_of, ran_lost, once_more, connected_a, connected_b}
-use Rattle.dcsctp_theorem_progress.proofs.Retries.{clock_turn, first_expiry, no_turns, again as t1_again, t1_continues, t1_fits, t1_stays}
+use Rattle.dcsctp_theorem_progress.proofs.Retries.{first_expiry, t1_fits}
+use Rattle.dcsctp_theorem_progress.proofs.StillAwaiting.{AwaitsStill, awaits_still, echoed_beside, had_still}
 use Rattle.dcsctp_theorem_progress.proofs.Views.{AtOf, KeepOf, View, ran, ran_exchanges, view, view_then}
-
--- ---- the one that awaits the COOKIE ACK
-
--- It still does, with a restart less at most, and told nothing.
-record AwaitsStill (v w : View) (cookie : Cookie) (bytes : List ℕ) (more : ℕ) (turns : List Transition) : Type 0 where
-  echoed : HasEchoed (view_then v turns).endpoint w.endpoint cookie bytes
-  t1 : RetriesT1 (view_then v turns).endpoint more
-  same : (view_then v turns).endpoint.options ≡ v.endpoint.options
-  told : (view_then v turns).told ≡ v.told
-
-not_due : (e : Endpoint) (p : Pair) (held : Held) (bytes : List ℕ) (moment : ℕ) (turns : List Transition) → e.core ≡ cookie_echoed p held bytes → has_come moment (delay_deadline e.queues.transfer) ≡ false
-    → has_come moment (deadline_of e.timers.t1) ≡ false → MomentTurns e moment turns → turns ≡ clock_turn moment e ∷ []
-not_due e p held bytes moment [] is delay waits h = absurd h
-not_due e p held bytes moment (t ∷ ts) is delay waits h =
-    let f : Endpoint = with_clock moment e in
-    let first : t ≡ clock_turn moment e = turned_as t (time_passes moment) (still f) h.0.is h.0.comes in
-    let rest : DueTurns f ts = subst (λ (x : Transition). DueTurns x.outcome.after ts) first h.1 in
-    let at_core : ExpiryTurns (own_timer acknowledgement_delay ∷ t1_timer ∷ []) false f ts = subst (λ (core : Core). ExpiryTurns (handled_timers core) false f ts) is rest in
-    let at_t1 : ExpiryTurns (t1_timer ∷ []) false f ts = subst (λ (b : Bool). ExpiryThen b (ExpiryTurns (t1_timer ∷ [])) f false (own_timer acknowledgement_delay) ts) delay at_core in
-    let none : Turns f [] ts = subst (λ (b : Bool). ExpiryThen b (ExpiryTurns []) f false t1_timer ts) waits at_t1 in
-    ap (λ (x : Transition). x ∷ ts) first ∙ ap (λ (xs : List Transition). clock_turn moment e ∷ xs) (no_turns f ts none)
-
-clock_awaits : (v w : View) (cookie : Cookie) (bytes : List ℕ) (more moment : ℕ) → moment ≤ max_nanos → HasEchoed v.endpoint w.endpoint cookie bytes → RetriesT1 v.endpoint (suc more)
-    → AwaitsStill v w cookie bytes more (clock_turn moment v.endpoint ∷ [])
-clock_awaits v w cookie bytes more moment fits h t1 =
-    let less : RetriesT1 v.endpoint more = t1_stays v.endpoint more t1 in
-    record {
-      echoed = record {
-        core = h.core;
-        reads = h.reads;
-        fits = h.fits;
-        offer = h.offer;
-        idle = h.idle;
-        owes = h.owes;
-        delay = h.delay;
-        asks = h.asks;
-        errors = h.errors;
-      };
-      t1 = record { timer = less.timer; runs = less.runs; left = less.left; clock = fits; deadline = less.deadline };
-      same = refl;
-      told = refl;
-    }
-
-awaits_by : (present come : Bool) (v w : View) (cookie : Cookie) (bytes : List ℕ) (more moment : ℕ) (turns : List Transition) → nat_le v.endpoint.moment moment ≡ present
-    → has_come moment (deadline_of v.endpoint.timers.t1) ≡ come → Good v.endpoint.options → moment ≤ max_nanos → HasEchoed v.endpoint w.endpoint cookie bytes → RetriesT1 v.endpoint (suc more)
-    → AdvanceTurns v.endpoint moment turns → AwaitsStill v w cookie bytes more turns
-awaits_by false come v w cookie bytes more moment turns is_present is_come good fits h t1 time =
-    subst (AwaitsStill v w cookie bytes more) (sym (subst (λ (b : Bool). TimeTurns b v.endpoint moment turns) is_present time))
-    (record { echoed = h; t1 = t1_stays v.endpoint more t1; same = refl; told = refl })
-awaits_by true false v w cookie bytes more moment turns is_present is_come good fits h t1 time =
-    subst (AwaitsStill v w cookie bytes more)
-    (sym (not_due v.endpoint _ _ _ moment turns h.core (ap (has_come moment) h.delay) is_come (subst (λ (b : Bool). TimeTurns b v.endpoint moment turns) is_present time)))
-    (clock_awaits v w cookie bytes more moment fits h t1)
-awaits_by true true v w cookie bytes more moment turns is_present is_come good fits h t1 time =
-    let due : DueT1 v.endpoint moment = record { present = is_present; come = is_come; again = t1_again v.endpoint more t1 } in
-    let here : View = again v w cookie bytes moment in
-    subst (AwaitsStill v w cookie bytes more) (sym (repeats v.endpoint w.endpoint cookie bytes moment turns (record { echoed = h; t1 = due }) good time))
-    (record { echoed = after_again v w cookie bytes moment h; t1 = t1_continues v.endpoint here.endpoint more moment fits t1 refl refl; same = refl; told = refl })
-
-awaits_still : (v w : View) (cookie : Cookie) (bytes : List ℕ) (more moment : ℕ) (turns : List Transition) → Good v.endpoint.options → moment ≤ max_nanos → HasEchoed v.endpoint w.endpoint cookie bytes
-    → RetriesT1 v.endpoint (suc more) → AdvanceTurns v.endpoint moment turns → AwaitsStill v w cookie bytes more turns
-awaits_still v w cookie bytes more moment turns good fits h t1 time =
-    awaits_by (nat_le v.endpoint.moment moment) (has_come moment (deadline_of v.endpoint.timers.t1)) v w cookie bytes more moment turns refl refl good fits h t1 time
-
--- ---- by the other's options and queues
-
-pub echoed_beside : (e f g : Endpoint) (cookie : Cookie) (bytes : List ℕ) → g.options ≡ f.options → HasEchoed e f cookie bytes → HasEchoed e g cookie bytes
-echoed_beside e f g cookie bytes same h =
-    record {
-      core = subst (λ (o : Options). e.core ≡ cookie_echoed cookie.addressee (new_held cookie.addressee cookie.maker (negotiated_capabilities (offer_of e.options) (offer_of o))) bytes) (sym same) h.core;
-      reads = h.reads;
-      fits = h.fits;
-      offer = h.offer;
-      idle = h.idle;
-      owes = h.owes;
-      delay = h.delay;
-      asks = h.asks;
-      errors = h.errors;
-    }
-
-abbrev pub linked_with : Cookie → Options → Options → Core
-linked_with cookie b a = open_in established cookie.maker (new_held cookie.maker cookie.addressee (negotiated_capabilities (offer_of b) (offer_of a)))
-
-had_still : (e e' f g : Endpoint) (cookie : Cookie) (more : ℕ) → e'.options ≡ e.options → Beats f g more → HadEcho e f cookie → HadEcho e' g cookie
-had_still e e' f g cookie more same beats h =
-    record {
-      core = beats.core ∙ h.core ∙ ap (λ (o : Options). linked_with cookie o e.options) (sym beats.options) ∙ ap (linked_with cookie g.options) (sym same);
-      idle = idle_still f g beats.queues h.idle;
-      owes = subst (λ (queues : EndpointQueues). OwesNothing queues.transfer) (sym beats.queues) h.owes;
-    }
 
 -- ---- lost rounds
 
@@ -143,7 +41,7 @@ record AckReady (side : Side) (options : Both Options) (run : List PerformedAct)
   mine : suc v.told ≡ echo.mine
   others : w.told ≡ echo.others
 
-lesser_within : (side : Side) (v w : View) → next_moment v.endpoint ≤ max_nanos → lesser_of side v w ≤ max_nanos
+pub lesser_within : (side : Side) (v w : View) → next_moment v.endpoint ≤ max_nanos → lesser_of side v w ≤ max_nanos
 lesser_within sides.A v w fits = omega (arith, fits)
 lesser_within sides.B v w fits = omega (arith, fits)
 
@@ -201,7 +99,7 @@ first_ready side options run echo h waits =
     }
 
 -- as the run shows them
-comes_first : (side : Side) (options : Both Options) (run : List PerformedAct) (v w : View) → AtOf side options run v w → (x y : View) → AtOf side options run x y
+pub comes_first : (side : Side) (options : Both Options) (run : List PerformedAct) (v w : View) → AtOf side options run v w → (x y : View) → AtOf side options run x y
     → next_moment x.endpoint < next_moment y.endpoint → next_moment v.endpoint < next_moment w.endpoint
 comes_first sides.A options run v w at x y there waits =
     subst (λ (k : View). next_moment k.endpoint < next_moment w.endpoint) (sym there.a ∙ at.a)

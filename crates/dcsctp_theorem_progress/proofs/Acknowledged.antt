@@ -22,9 +22,9 @@ use Rattle.dcsctp_theorem_sockets.proofs.HandshakeReads.{Wire, counted_at}
 use Rattle.dcsctp_theorem_sockets.proofs.Sendable.{ack_sendable}
 use Rattle.dcsctp_theorem_progress.proofs.Views.{told_then}
 use Rattle.dcsctp_theorem_progress.proofs.Carried.{Carries, CarriesTo, AreCarried, all_both}
-use Rattle.dcsctp_theorem_progress.proofs.Flows.{Flows, AllCarryTo, AreCarriedFor, told-append}
+use Rattle.dcsctp_theorem_progress.proofs.Flows.{HasPeer, is_open, is_echoing, Flows, AllCarryTo, AreCarriedFor, told-append}
 use Rattle.dcsctp_theorem_progress.proofs.Flushes.{Stays, flush_stays}
-use Rattle.dcsctp_theorem_progress.proofs.Walks.{StayAlong, walked, WholeTaken, whole_taken, AreOrdinary, are_ordinary, carried_sendable, no_front, tail_no_echo}
+use Rattle.dcsctp_theorem_progress.proofs.Walks.{StayAlong, walked_on, walked, WholeTaken, whole_taken, AreOrdinary, are_ordinary, carried_sendable, no_front, tail_no_echo}
 use Rattle.dcsctp_theorem_progress.proofs.Establishing.{own_admitted, goes_on}
 
 -- ---- COOKIE ACK
@@ -115,12 +115,20 @@ connects_along law e b p held bytes with_checksum more turns is asks f good mine
 
 -- ---- an Established socket
 
--- It stays so, and its peer takes what it sends.
-pub opened_along : Wire → (e : Endpoint) (theirs : Options) (my : Pair) (held : Held) (m n with_checksum : Bool) (emission : Emission) (turns : List Transition) → e.core ≡ open_in established my held → Flows held e
+own_of : (my : Pair) (held : Held) (core : Core) → HasPeer my held core → own_tag core ≡ my.tag
+own_of my held core (is_open is) = ap own_tag is
+own_of my held core (is_echoing bytes is) = ap own_tag is
+
+begins_still : (my : Pair) (held : Held) (core : Core) (has : Bool) (e : Endpoint) (o : Outcome) → HasPeer my held core → BeginTurn e core has o → o ≡ still e
+begins_still my held core has e o (is_open is) rests = subst (λ (c : Core). BeginTurn e c has o) is rests
+begins_still my held core has e o (is_echoing bytes is) rests = subst (λ (c : Core). BeginTurn e c has o) is rests
+
+-- It stays so, and its peer takes what it sends. So it is while it awaits the COOKIE ACK.
+pub peer_along : Wire → (e : Endpoint) (theirs : Options) (my : Pair) (held : Held) (m n with_checksum : Bool) (emission : Emission) (turns : List Transition) → HasPeer my held e.core → awaits_opening e e.core ≡ false → Flows held e
     → FitsOptions theirs → FitsPair my → theirs.remote_port ≡ e.options.local_port → m ≡ held.capabilities.message_interleaving → n ≡ held.capabilities.partial_reliability
     → (with_checksum ≡ true) ⊎ (e.options.zero_checksum_alternate_error_detection_method.0 ≢ 0) → Carries m n with_checksum my.tag emission
     → HandleInput e (emission_bytes (ports_of theirs) emission) turns → StayAlong held e turns
-opened_along law e theirs my held m n with_checksum emission turns is f good mine port interleaves abandons checked carries input =
+peer_along law e theirs my held m n with_checksum emission turns is asks f good mine port interleaves abandons checked carries input =
     let contents : List Content = emission.packet.contents in
     let ordinary : AreOrdinary contents = are_ordinary m n contents carries.contents in
     let h : WholeTaken e emission.packet turns =
@@ -134,14 +142,20 @@ opened_along law e theirs my held m n with_checksum emission turns is f good min
       checked = subst (λ (b : Bool). (b ≡ true) ⊎ (e.options.zero_checksum_alternate_error_detection_method.0 ≢ 0)) (sym carries.checked) checked;
     })
     (own_admitted e.core emission.packet (first_abort contents) (first_shutdown_complete contents) (has_shutdown_ack contents) (is_echo_in_front contents)
-    ordinary.no_abort ordinary.no_complete ordinary.no_ack (no_front m n contents carries.contents) (ap own_tag is ∙ sym carries.header) (subst (λ (tag : ℕ). 1 ≤ tag) (sym carries.header) mine.tag_is_not_zero))
-    (ap (awaits_opening e) is)
-    (λ o rests. subst (λ (core : Core). BeginTurn (counted_at e) core (has_data_chunk e.options.follow_rfc contents) o) is rests) input in
+    ordinary.no_abort ordinary.no_complete ordinary.no_ack (no_front m n contents carries.contents) (own_of my held e.core is ∙ sym carries.header) (subst (λ (tag : ℕ). 1 ≤ tag) (sym carries.header) mine.tag_is_not_zero))
+    asks (λ o rests. begins_still my held e.core (has_data_chunk e.options.follow_rfc contents) (counted_at e) o is rests) input in
     let each : AreCarriedFor held contents =
     subst (λ (b : Bool). AreCarried held.capabilities.message_interleaving b contents) abandons (subst (λ (b : Bool). AreCarried b n contents) interleaves carries.contents) in
     let counted : Flows held (counted_at e) = record {
       kind = record { peer = f.kind.peer; transfer = f.kind.transfer; known = f.kind.known; interleaves = f.kind.interleaves; abandons = f.kind.abandons };
       unpaused = f.unpaused;
     } in
-    let last : StayAlong held (counted_at e) h.rest = walked held my (counted_at e) emission.packet.tag contents h.rest is counted each h.chunks in
-    subst (StayAlong held e) (sym h.parts) (record { core = last.core; options = last.options; asked = last.asked; flows = last.flows; tells = last.tells })
+    let last : StayAlong held (counted_at e) h.rest = walked_on held my (counted_at e) emission.packet.tag contents h.rest is counted each h.chunks in
+    subst (StayAlong held e) (sym h.parts) (record { core = last.core; options = last.options; asked = last.asked; flows = last.flows; tells = last.tells; trying = record { moment = last.trying.moment; t1 = last.trying.t1; errors = last.trying.errors } })
+
+pub opened_along : Wire → (e : Endpoint) (theirs : Options) (my : Pair) (held : Held) (m n with_checksum : Bool) (emission : Emission) (turns : List Transition) → e.core ≡ open_in established my held → Flows held e
+    → FitsOptions theirs → FitsPair my → theirs.remote_port ≡ e.options.local_port → m ≡ held.capabilities.message_interleaving → n ≡ held.capabilities.partial_reliability
+    → (with_checksum ≡ true) ⊎ (e.options.zero_checksum_alternate_error_detection_method.0 ≢ 0) → Carries m n with_checksum my.tag emission
+    → HandleInput e (emission_bytes (ports_of theirs) emission) turns → StayAlong held e turns
+opened_along law e theirs my held m n with_checksum emission turns is f good mine port interleaves abandons checked carries input =
+    peer_along law e theirs my held m n with_checksum emission turns (is_open is) (ap (awaits_opening e) is) f good mine port interleaves abandons checked carries input

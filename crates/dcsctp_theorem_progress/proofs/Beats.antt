@@ -56,11 +56,11 @@ beaten_then f t ts more less first none rest =
 
 -- ---- errors
 
-one_more_error : (limit : Option ℕ) (count more : ℕ) → LeavesRestarts limit count (suc more) → LeavesRestarts limit (error_counted limit count) more
+pub one_more_error : (limit : Option ℕ) (count more : ℕ) → LeavesRestarts limit count (suc more) → LeavesRestarts limit (error_counted limit count) more
 one_more_error None count more h = tt
 one_more_error (Some limit) count more h = omega (arith, h)
 
-not_exhausted : (limit : Option ℕ) (count more : ℕ) → LeavesRestarts limit count more → is_exhausted limit count ≡ false
+pub not_exhausted : (limit : Option ℕ) (count more : ℕ) → LeavesRestarts limit count more → is_exhausted limit count ≡ false
 not_exhausted None count more h = refl
 not_exhausted (Some limit) count more h = grind (arith, nat_tests, h)
 

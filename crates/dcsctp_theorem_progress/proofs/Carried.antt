@@ -1,27 +1,33 @@
 -- The chunks that a packet of an association carries beside those of the handshake: data in the form that was negotiated, what
--- acknowledges it, what skips it, and reports.
-use Rattle.std.proofs.Common.{◌≡◌, ℕ, Bool, true, false, List, [], ◌∷◌, ◌++◌, refl, sym, subst}
+-- acknowledges it, what skips it, heartbeats and their answers, and reports other than of a stale cookie.
+use Rattle.std.proofs.Common.{◌≡◌, ℕ, Bool, true, false, List, [], ◌∷◌, ◌++◌, refl, sym, subst, arith}
+use Rattle.std.specs.Int.{w32, to_be_bytes}
 use Rattle.std.specs.Prelude.{if◌then◌else◌}
 use Rattle.std.specs.List.{AllByRecursion}
-use Rattle.dcsctp_spec_lemmas.specs.wire.Content.{data_chunk, i_data_chunk, sack_chunk, error_chunk, forward_tsn_chunk, i_forward_tsn_chunk}
+use Rattle.dcsctp_spec_lemmas.specs.wire.Spelling.{parameters_len}
+use Rattle.dcsctp_spec_lemmas.specs.wire.Content.{ParameterContent, heartbeat_info, data_chunk, i_data_chunk, sack_chunk, error_chunk, forward_tsn_chunk, i_forward_tsn_chunk}
 use Rattle.dcsctp_spec_lemmas.specs.types.declared.association.Held.{Held}
-use Rattle.dcsctp_spec_lemmas.specs.spec.Packet.{Plain, unworked, plain_out, Content, plain, content_of_chunk, Emission}
+use Rattle.dcsctp_spec_lemmas.specs.spec.Packet.{Plain, unworked, heartbeat, heartbeat_ack, plain_out, Content, plain, content_of_chunk, Emission}
 use Rattle.dcsctp_spec_lemmas.specs.spec.association.Choices.{plain_contents}
+use Rattle.dcsctp_spec_lemmas.specs.spec.endpoint.Cause.{has_stale_cookie}
 use Rattle.dcsctp_spec_lemmas.specs.spec.endpoint.FlushOutcomes.{where_fits, FitsPlain, own_sack, Acknowledges, draft_to}
 use Rattle.dcsctp_spec_lemmas.specs.spec.queues.Tracker.{TrackerState}
 use Rattle.dcsctp_spec_lemmas.specs.spec.queues.Transfer.{Transfer, advertised_window}
 use Rattle.dcsctp_spec_runs.specs.Fitting.{Sendable}
 use Rattle.dcsctp_spec_runs.proofs.KindLemmas.{IsData, IsForward}
 use Rattle.dcsctp_spec_runs.proofs.TrackerLemmas.{sack_fits}
+use Rattle.dcsctp_theorem_sockets.proofs.Bytes.{in_four}
 
 -- It breaks nothing, where messages are interleaved or not, and may be abandoned or not.
 abbrev pub IsAllowed : Bool → Bool → Plain → Type 0
 IsAllowed interleaves abandons (unworked (data_chunk chunk)) = interleaves ≡ false
 IsAllowed interleaves abandons (unworked (i_data_chunk chunk)) = interleaves ≡ true
 IsAllowed interleaves abandons (unworked (sack_chunk chunk)) = Unit {0}
-IsAllowed interleaves abandons (unworked (error_chunk causes)) = Unit {0}
+IsAllowed interleaves abandons (unworked (error_chunk causes)) = has_stale_cookie causes ≡ false
 IsAllowed interleaves abandons (unworked (forward_tsn_chunk tsn streams)) = (interleaves ≡ false) × (abandons ≡ true)
 IsAllowed interleaves abandons (unworked (i_forward_tsn_chunk tsn streams)) = (interleaves ≡ true) × (abandons ≡ true)
+IsAllowed interleaves abandons (heartbeat parameters) = Unit {0}
+IsAllowed interleaves abandons (heartbeat_ack parameters) = Unit {0}
 IsAllowed interleaves abandons chunk = ⊥
 
 abbrev pub IsAllowedContent : Bool → Bool → Content → Type 0
@@ -110,3 +116,13 @@ pub sacks_carried : (wants interleaves abandons : Bool) (room : ℕ) (transfer :
 sacks_carried false interleaves abandons room transfer after chunks h = subst (λ (cs : List Plain). AreCarried interleaves abandons (plain_contents cs)) (sym h.1) tt
 sacks_carried true interleaves abandons room transfer after chunks h =
     subst (λ (cs : List Plain). AreCarried interleaves abandons (plain_contents cs)) (sym h.1) (sack_carried interleaves abandons room room transfer)
+
+-- ---- heartbeats
+
+pub heartbeat_sendable : (counter : ℕ) → Sendable (plain (heartbeat (heartbeat_info (to_be_bytes w32 counter) ∷ [])))
+unfolding parameters_len
+heartbeat_sendable counter = record { fits = record { len_fits = omega arith; parameters_fit = (in_four counter, tt) }; reads = refl; said = tt }
+
+-- An answer has what the HEARTBEAT has.
+pub answer_sendable : (parameters : List ParameterContent) → Sendable (plain (heartbeat parameters)) → Sendable (plain (heartbeat_ack parameters))
+answer_sendable parameters good = record { fits = good.fits; reads = refl; said = tt }

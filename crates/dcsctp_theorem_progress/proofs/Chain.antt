@@ -18,7 +18,7 @@ use Rattle.dcsctp_theorem_progress.specs.LostInits.{AwaitsInitAck, AreLinked}
 use Rattle.dcsctp_theorem_sockets.proofs.HandshakeTurns.{HandshakeLaws, answer_to}
 use Rattle.dcsctp_theorem_progress.proofs.Turns.{init_repeated}
 use Rattle.dcsctp_theorem_progress.proofs.Echoes.{answer_packet}
-use Rattle.dcsctp_theorem_progress.proofs.Facts.{Fit, echoed_turns, established_turns}
+use Rattle.dcsctp_theorem_progress.proofs.Facts.{Fit}
 use Rattle.dcsctp_theorem_progress.proofs.Views.{View, view_then, AtOf, KeepOf, ran_exchanges}
 use Rattle.dcsctp_theorem_progress.proofs.Handed.{UnderBack, handed_back, HandedBack, Settles, settles, keep_same}
 use Rattle.dcsctp_theorem_progress.proofs.Carrying.{EchoesAlong, echoes_along}
@@ -40,23 +40,17 @@ given_by v p q made tie = cookie_for made (introduction_of v.endpoint.options p)
 pub record Replied (v there : View) (p q : Pair) (made tie : ℕ) (before : List (List ℕ)) : Type 0 where
   pub shown : there.shown ≡ before ++ answer_packet v.endpoint.options there.endpoint.options p q (given_by v p q made tie) ∷ []
   pub pair : FitsPair q
-  pub takes : TakesEcho there v.endpoint.options (given_by v p q made tie) (cookie_bytes (given_by v p q made tie))
+  pub takes : TakesEcho suc there v.endpoint.options (given_by v p q made tie) (cookie_bytes (given_by v p q made tie))
 
 -- ---- the sides in turn
 
 abbrev pub begun : View → Pair → ℕ → View
 begun v p moment = view_then v (init_repeated v.endpoint p moment)
 
-abbrev pub echoed : View → View → Pair → Pair → ℕ → Cookie → ℕ → View
-echoed v there p q moment cookie word = view_then (begun v p moment) (echoed_turns (begun v p moment).endpoint there.endpoint.options p q cookie word)
-
-abbrev pub acknowledged : View → Cookie → ℕ → View
-acknowledged there cookie word = view_then there (established_turns there.endpoint cookie word)
-
 -- ---- INIT ACK
 
 -- It has the pairs of both, and what both offers have in common.
-same_end : HandshakeLaws → (a b : Options) (p q : Pair) (made tie : ℕ) → held_by_init_ack a p (answer_to a b p q) ≡ echoing_end a b (cookie_for made (introduction_of a p) q tie)
+pub same_end : HandshakeLaws → (a b : Options) (p q : Pair) (made tie : ℕ) → held_by_init_ack a p (answer_to a b p q) ≡ echoing_end a b (cookie_for made (introduction_of a p) q tie)
 same_end law a b p q made tie = ap (new_held p q) (law.answers (offer_of a) (offer_of b))
 
 pub no_shutdown : (options now : Options) (before after : Bool) → now ≡ options → after ≡ before → (options.follow_rfc && before) ≡ false → (now.follow_rfc && after) ≡ false
@@ -107,7 +101,7 @@ answered_connects law side options v there p q moment made tie before settled se
     echo_connects law.wire side options after there cookie bytes here.shown (counts_shown options (turns_after earlier)) settled' rest.0 run (echo_under law here b p q made tie h.turns g.awaits.asks one)
     (subst (λ (o : Options). EchoFits o there cookie) (sym one.options) (record { offered = refl; fits = g.fit.good_a.fits; maker = r.pair; port = g.fit.to_b }))
     (record { offered = ap offer_of (sym one.options); fits = g.fit.good_b.fits; addressee = g.awaits.pair; port = g.fit.to_a ∙ ap (λ (o : Options). o.local_port) (sym one.options) })
-    (subst (λ (o : Options). TakesEcho there o cookie bytes) (sym one.options) r.takes)
+    (subst (λ (o : Options). TakesEcho suc there o cookie bytes) (sym one.options) r.takes)
     (keep_same side options v there after there one.options refl g.keep) h.at (settles side options earlier here there at) rest.2 runs in
     record {
       here = j.here;

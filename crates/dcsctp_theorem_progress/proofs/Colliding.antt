@@ -27,7 +27,7 @@ use Rattle.dcsctp_theorem_progress.proofs.Views.{told_then}
 use Rattle.dcsctp_theorem_progress.proofs.Carried.{all_both}
 use Rattle.dcsctp_theorem_progress.proofs.Flows.{Flows, AreCarriedFor, told-append}
 use Rattle.dcsctp_theorem_progress.proofs.Flushes.{Stays, Fronts, front_draft, flush_fronts}
-use Rattle.dcsctp_theorem_progress.proofs.Opened.{still_stays}
+use Rattle.dcsctp_theorem_progress.proofs.Received.{still_stays}
 use Rattle.dcsctp_theorem_progress.proofs.Walks.{StayAlong, stays_then, walked, WholeTaken, whole_taken, AreOrdinary, are_ordinary, carried_sendable}
 use Rattle.dcsctp_theorem_progress.proofs.Carrying.{sent_then}
 use Rattle.dcsctp_theorem_progress.proofs.Establishing.{EstablishesAlong, Established, echo_admitted, own_admitted, goes_on, echo_then}
@@ -140,7 +140,7 @@ ignores_chunks e p held tag contents more turns (t ∷ ts) is f each parts h =
     let first = subst (λ (o : Outcome). Stays held (counted_at e) o) (sym ignored) (still_stays held (counted_at e) counted) in
     let last : StayAlong held t.outcome.after ts = walked held p t.outcome.after tag more ts (first.core ∙ is) first.flows each (goes_on t tag more ts first.following h.1) in
     let both : StayAlong held (counted_at e) (t ∷ ts) = stays_then held (counted_at e) t ts first last in
-    subst (StayAlong held e) (sym parts) (record { core = both.core; options = both.options; asked = both.asked; flows = both.flows; tells = both.tells })
+    subst (StayAlong held e) (sym parts) (record { core = both.core; options = both.options; asked = both.asked; flows = both.flows; tells = both.tells; trying = record { moment = both.trying.moment; t1 = both.trying.t1; errors = both.trying.errors } })
 
 -- An Established socket ignores it, and takes what is behind it.
 pub ignores_along : Wire → (e : Endpoint) (b : Options) (p : Pair) (held : Held) (with_checksum : Bool) (more : List Content) (turns : List Transition) → e.core ≡ open_in established p held

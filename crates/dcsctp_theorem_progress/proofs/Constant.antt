@@ -1,9 +1,12 @@
--- What a flush of a socket that has received nothing leaves as it was: the clock, T1, the count of errors, and what tracks received data.
-use Rattle.std.proofs.Common.{◌≡◌, ℕ, Bool, true, false, ◌&&◌, ◌||◌, Option, None, Some, List, [], ◌∷◌, map, refl, sym, ap, subst, ◌∙◌}
+-- What a flush leaves as it was: the clock and the count of errors. And what tracks received data, if nothing was received.
+use Rattle.std.specs.Prelude.{if◌then◌else◌}
+use Rattle.std.proofs.Common.{◌≡◌, ℕ, Bool, true, false, ◌&&◌, ◌||◌, Option, None, Some, List, [], ◌∷◌, map, refl, sym, ap, subst, ◌∙◌, arith}
+use Rattle.std.proofs.lemmas.Bool.Decides.{nat_tests}
 use Rattle.dcsctp_spec_lemmas.specs.spec.Packet.{Content, Emission}
 use Rattle.dcsctp_spec_lemmas.specs.spec.endpoint.BegunResets.{BegunReset, after_begun}
 use Rattle.dcsctp_spec_lemmas.specs.spec.endpoint.Endpoint.{Endpoint}
 use Rattle.dcsctp_spec_lemmas.specs.spec.endpoint.Event.{Event}
+use Rattle.dcsctp_spec_lemmas.specs.spec.endpoint.HeartbeatOutcomes.{is_exhausted}
 use Rattle.dcsctp_spec_lemmas.specs.spec.endpoint.FlushOutcomes.{Answer, answer_contents, filled_draft, filling_event, goes_out, asked_outcome, next_draft, flush_of, Ask, first_ask, later_ask, wants_sack, room_of_draft, Acknowledges, Gives, GivesUnlessIdle, IsAnswerOfQueues, IsFlushAnswer, AreFlushAnswers, at_limit, at_empty, after_packet}
 use Rattle.dcsctp_spec_lemmas.specs.spec.queues.SendQueue.{SendQueueState, has_queued_data}
 use Rattle.dcsctp_spec_lemmas.specs.spec.queues.Retransmission.{can_send}
@@ -20,11 +23,32 @@ pub record SameClock (e f : Endpoint) : Type 0 where
 same_then : (e f g : Endpoint) → SameClock e f → SameClock f g → SameClock e g
 same_then e f g first second = record { moment = second.moment ∙ first.moment; errors = second.errors ∙ first.errors }
 
+-- The clock and T1 are as they were, and no more errors count.
+pub record KeepsTrying (e f : Endpoint) : Type 0 where
+  pub moment : f.moment ≡ e.moment
+  pub t1 : f.timers.t1 ≡ e.timers.t1
+  pub errors : (limit : Option ℕ) → is_exhausted limit e.error_count ≡ false → is_exhausted limit f.error_count ≡ false
+
+pub same_trying : (e f : Endpoint) → f.moment ≡ e.moment → f.timers.t1 ≡ e.timers.t1 → f.error_count ≡ e.error_count → KeepsTrying e f
+same_trying e f moment t1 errors = record { moment = moment; t1 = t1; errors = λ limit none. ap (is_exhausted limit) errors ∙ none }
+
+pub trying_then : (e f g : Endpoint) → KeepsTrying e f → KeepsTrying f g → KeepsTrying e g
+trying_then e f g first second =
+    record { moment = second.moment ∙ first.moment; t1 = second.t1 ∙ first.t1; errors = λ limit none. second.errors limit (first.errors limit none) }
+
+none_counted : (limit : Option ℕ) → is_exhausted limit 0 ≡ false
+none_counted None = refl
+none_counted (Some limit) = grind (arith, nat_tests)
+
+pub errors_begin : (begins : Bool) (limit : Option ℕ) (count : ℕ) → is_exhausted limit count ≡ false → is_exhausted limit (if begins then 0 else count) ≡ false
+errors_begin true limit count h = none_counted limit
+errors_begin false limit count h = h
+
 begun_same : (begun : Option BegunReset) (e : Endpoint) → SameClock e (after_begun begun e)
 begun_same None e = record { moment = refl; errors = refl }
 begun_same (Some begun) e = record { moment = refl; errors = refl }
 
-out_same : (e : Endpoint) (told : List (Event Emission)) (with_checksum : Bool) (tag : ℕ) (contents : List Content) → SameClock e (goes_out e told with_checksum tag contents).after
+pub out_same : (e : Endpoint) (told : List (Event Emission)) (with_checksum : Bool) (tag : ℕ) (contents : List Content) → SameClock e (goes_out e told with_checksum tag contents).after
 out_same e told with_checksum tag [] = record { moment = refl; errors = refl }
 out_same e told with_checksum tag (content ∷ contents) = record { moment = refl; errors = refl }
 

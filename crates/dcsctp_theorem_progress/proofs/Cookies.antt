@@ -109,7 +109,7 @@ again_sends e p held bytes o at good turn =
     ∙ ap (λ (b : Bool). cond b (cond (allows_packet e.options.max_burst) (sends after [] [] (echo_emission tag bytes)) (quiet after [] [])) (quiet after [] [])) (bytes_fit after tag bytes at.size good.allow.mtu)
     ∙ ap (λ (b : Bool). cond b (sends after [] [] (echo_emission tag bytes)) (quiet after [] [])) good.allow.burst
 
-nothing_behind : (e : Endpoint) (p : Pair) (held : Held) (bytes : List ℕ) (turns : List Transition) → e.core ≡ cookie_echoed p held bytes → is_exhausted e.options.max_retransmissions e.error_count ≡ false
+pub nothing_behind : (e : Endpoint) (p : Pair) (held : Held) (bytes : List ℕ) (turns : List Transition) → e.core ≡ cookie_echoed p held bytes → is_exhausted e.options.max_retransmissions e.error_count ≡ false
     → Turns e (after_expiries e true) turns → turns ≡ []
 nothing_behind e p held bytes turns is errors h =
     let at_core : Turns e (unless_exhausted e []) turns = subst (λ (core : Core). Turns e (inputs_behind e core) turns) is h in
@@ -163,7 +163,7 @@ whatever_age false = refl
 pub same_case : (mine peer tie untied : Bool) → mine ≡ true → peer ≡ true → case_by_answers mine peer tie untied ≡ maintain_existing
 same_case mine peer tie untied one other = ap (λ (x : Bool). case_by_answers x peer tie untied) one ∙ ap (λ (x : Bool). case_by_answers true x tie untied) other
 
-maintained : (f : Endpoint) (cookie : Cookie) → resolved_now f (open_in established cookie.maker (held_by_cookie f.options cookie)) cookie.maker.tag cookie ≡ maintain_existing
+pub maintained : (f : Endpoint) (cookie : Cookie) → resolved_now f (open_in established cookie.maker (held_by_cookie f.options cookie)) cookie.maker.tag cookie ≡ maintain_existing
 maintained f cookie =
     let spent : Bool = is_spent f (open_in established cookie.maker (held_by_cookie f.options cookie)) cookie.maker.tag cookie in
     ap (aged_resolution spent) (same_case (eqb cookie.maker.tag cookie.maker.tag) (eqb cookie.addressee.tag cookie.addressee.tag) (eqb cookie.tie f.tie) (eqb cookie.tie f.secret)

@@ -23,7 +23,7 @@ use Rattle.dcsctp_theorem_progress.proofs.Views.{View, view_then}
 use Rattle.dcsctp_theorem_progress.proofs.Carried.{AreCarried, all_both}
 use Rattle.dcsctp_theorem_progress.proofs.Flows.{Flows, AreCarriedFor, AllCarryTo}
 use Rattle.dcsctp_theorem_progress.proofs.Walks.{StayAlong}
-use Rattle.dcsctp_theorem_progress.proofs.Establishing.{EstablishesAlong, ack_then, echo_then}
+use Rattle.dcsctp_theorem_progress.proofs.Establishing.{AcknowledgesAlong, ack_then, echo_then}
 use Rattle.dcsctp_theorem_progress.proofs.Acknowledged.{opened_along}
 use Rattle.dcsctp_theorem_progress.proofs.HandedAll.{HoldsAlong}
 
@@ -82,30 +82,35 @@ pub record EchoUnderOf (v : View) (a : Options) (held : Held) (cookie : Cookie) 
 abbrev pub EchoUnder : View → Options → Cookie → List ℕ → List (List ℕ) → Type 0
 EchoUnder v b cookie bytes before = EchoUnderOf v v.endpoint.options (echoing_end v.endpoint.options b cookie) cookie bytes before
 
--- The COOKIE ECHO has come: it is established, and its COOKIE ACK is under way, and after it packets of data.
-pub record AckUnder (w : View) (cookie : Cookie) (now : View) : Type 0 where
+-- The COOKIE ECHO has come: it is established, and its COOKIE ACK is under way, and after it packets of data. OnConnected
+-- is told so often after that.
+pub record AckUnderBy (tells : ℕ → ℕ) (w : View) (cookie : Cookie) (now : View) : Type 0 where
   pub core : now.endpoint.core ≡ open_in established cookie.maker (held_by_cookie w.endpoint.options cookie)
   pub options : now.endpoint.options ≡ w.endpoint.options
   pub flows : Flows (held_by_cookie w.endpoint.options cookie) now.endpoint
-  pub told : now.told ≡ suc w.told
+  pub told : now.told ≡ tells w.told
   pub more : List Content
   pub carried : AreCarriedFor (held_by_cookie w.endpoint.options cookie) more
   pub rest : List Emission
   pub others : AllCarryTo (held_by_cookie w.endpoint.options cookie) rest
   pub shown : now.shown ≡ w.shown ++ bytes_of w.endpoint.options (ack_then (held_by_cookie w.endpoint.options cookie) cookie.addressee.tag more ∷ rest)
 
+-- once more, where there was none
+abbrev pub AckUnder : View → Cookie → View → Type 0
+AckUnder w cookie now = AckUnderBy suc w cookie now
+
 -- Whatever is behind it, this end takes the COOKIE ECHO.
-abbrev pub TakesEcho : View → Options → Cookie → List ℕ → Type 0
-TakesEcho w a cookie bytes =
+abbrev pub TakesEcho : (ℕ → ℕ) → View → Options → Cookie → List ℕ → Type 0
+TakesEcho tells w a cookie bytes =
     (more : List Content) (turns : List Transition) → AreCarriedFor (held_by_cookie w.endpoint.options cookie) more
-    → HandleInput w.endpoint (emission_bytes (ports_of a) (echo_then cookie bytes more)) turns → EstablishesAlong w.endpoint cookie turns
+    → HandleInput w.endpoint (emission_bytes (ports_of a) (echo_then cookie bytes more)) turns → AcknowledgesAlong tells w.endpoint cookie turns
 
 -- ---- packet by packet
 
 -- With these packets to come it is still to come, or has come and only data comes.
-pub data EchoComes (a : Options) (w : View) (cookie : Cookie) (bytes : List ℕ) (more : List Content) (rest : List Emission) (xs : List (List ℕ)) (now : View) : Type 0 where
-  to_come : xs ≡ bytes_of a (echo_then cookie bytes more ∷ rest) → now ≡ w → EchoComes a w cookie bytes more rest xs now
-  has_come : (left : List Emission) → AllCarryTo (echoing_end a w.endpoint.options cookie) left → xs ≡ bytes_of a left → AckUnder w cookie now → EchoComes a w cookie bytes more rest xs now
+pub data EchoComes (tells : ℕ → ℕ) (a : Options) (w : View) (cookie : Cookie) (bytes : List ℕ) (more : List Content) (rest : List Emission) (xs : List (List ℕ)) (now : View) : Type 0 where
+  to_come : xs ≡ bytes_of a (echo_then cookie bytes more ∷ rest) → now ≡ w → EchoComes tells a w cookie bytes more rest xs now
+  has_come : (left : List Emission) → AllCarryTo (echoing_end a w.endpoint.options cookie) left → xs ≡ bytes_of a left → AckUnderBy tells w cookie now → EchoComes tells a w cookie bytes more rest xs now
 
 head_is : (x y : List ℕ) (xs ys : List (List ℕ)) → x ∷ xs ≡ y ∷ ys → x ≡ y
 head_is x y xs ys same = cc
@@ -120,12 +125,12 @@ pub record EchoFits (a : Options) (w : View) (cookie : Cookie) : Type 0 where
   pub maker : FitsPair cookie.maker
   pub port : a.remote_port ≡ w.endpoint.options.local_port
 
-first_comes : (a : Options) (w : View) (cookie : Cookie) (bytes : List ℕ) (more : List Content) (rest : List Emission) (xs : List (List ℕ)) (turns : List Transition) → EchoFits a w cookie → TakesEcho w a cookie bytes
+first_comes : (tells : ℕ → ℕ) (a : Options) (w : View) (cookie : Cookie) (bytes : List ℕ) (more : List Content) (rest : List Emission) (xs : List (List ℕ)) (turns : List Transition) → EchoFits a w cookie → TakesEcho tells w a cookie bytes
     → AreCarriedFor (echoing_end a w.endpoint.options cookie) more → AllCarryTo (echoing_end a w.endpoint.options cookie) rest → xs ≡ bytes_of a rest
-    → HandleInput w.endpoint (emission_bytes (ports_of a) (echo_then cookie bytes more)) turns → EchoComes a w cookie bytes more rest xs (view_then w turns)
-first_comes a w cookie bytes more rest xs turns fits takes carried others is input =
+    → HandleInput w.endpoint (emission_bytes (ports_of a) (echo_then cookie bytes more)) turns → EchoComes tells a w cookie bytes more rest xs (view_then w turns)
+first_comes tells a w cookie bytes more rest xs turns fits takes carried others is input =
     let b : Options = w.endpoint.options in
-    let h : EstablishesAlong w.endpoint cookie turns =
+    let h : AcknowledgesAlong tells w.endpoint cookie turns =
     takes more turns (carried_as _ _ _ _ more (same_interleaving a b cookie fits.offered) (same_reliability a b cookie fits.offered) carried) input in
     has_come rest others is
     (record {
@@ -140,10 +145,10 @@ first_comes a w cookie bytes more rest xs turns fits takes carried others is inp
       shown = ap (λ (ps : List (List ℕ)). w.shown ++ ps) (shown_is b turns ∙ ap (bytes_of b) h.packets);
     })
 
-next_comes : Wire → (a : Options) (w : View) (cookie : Cookie) (bytes : List ℕ) (more : List Content) (rest : List Emission) (xs : List (List ℕ)) (now : View) (emission : Emission) (left : List Emission) (turns : List Transition)
-    → EchoFits a w cookie → AllCarryTo (echoing_end a w.endpoint.options cookie) (emission ∷ left) → xs ≡ bytes_of a left → AckUnder w cookie now
-    → HandleInput now.endpoint (emission_bytes (ports_of a) emission) turns → EchoComes a w cookie bytes more rest xs (view_then now turns)
-next_comes wire a w cookie bytes more rest xs now emission left turns fits each is h input =
+next_comes : Wire → (tells : ℕ → ℕ) (a : Options) (w : View) (cookie : Cookie) (bytes : List ℕ) (more : List Content) (rest : List Emission) (xs : List (List ℕ)) (now : View) (emission : Emission) (left : List Emission) (turns : List Transition)
+    → EchoFits a w cookie → AllCarryTo (echoing_end a w.endpoint.options cookie) (emission ∷ left) → xs ≡ bytes_of a left → AckUnderBy tells w cookie now
+    → HandleInput now.endpoint (emission_bytes (ports_of a) emission) turns → EchoComes tells a w cookie bytes more rest xs (view_then now turns)
+next_comes wire tells a w cookie bytes more rest xs now emission left turns fits each is h input =
     let b : Options = w.endpoint.options in
     let held : Held = held_by_cookie b cookie in
     let along : StayAlong held now.endpoint turns =
@@ -164,28 +169,28 @@ next_comes wire a w cookie bytes more rest xs now emission left turns fits each 
       shown = shown_more w.shown b now turns (ack_then held cookie.addressee.tag h.more ∷ h.rest) h.options h.shown;
     })
 
-echo_step : Wire → (a : Options) (w : View) (cookie : Cookie) (bytes : List ℕ) (more : List Content) (rest : List Emission) → EchoFits a w cookie → TakesEcho w a cookie bytes
+echo_step : Wire → (tells : ℕ → ℕ) (a : Options) (w : View) (cookie : Cookie) (bytes : List ℕ) (more : List Content) (rest : List Emission) → EchoFits a w cookie → TakesEcho tells w a cookie bytes
     → AreCarriedFor (echoing_end a w.endpoint.options cookie) more → AllCarryTo (echoing_end a w.endpoint.options cookie) rest
-    → (x : List ℕ) (xs : List (List ℕ)) (now : View) (turns : List Transition) → EchoComes a w cookie bytes more rest (x ∷ xs) now → HandleInput now.endpoint x turns → EchoComes a w cookie bytes more rest xs (view_then now turns)
-echo_step wire a w cookie bytes more rest fits takes carried others x xs now turns (to_come is same) input =
-    subst (λ (y : View). EchoComes a w cookie bytes more rest xs (view_then y turns)) (sym same)
-    (first_comes a w cookie bytes more rest xs turns fits takes carried others (tail_is _ _ _ _ is)
+    → (x : List ℕ) (xs : List (List ℕ)) (now : View) (turns : List Transition) → EchoComes tells a w cookie bytes more rest (x ∷ xs) now → HandleInput now.endpoint x turns → EchoComes tells a w cookie bytes more rest xs (view_then now turns)
+echo_step wire tells a w cookie bytes more rest fits takes carried others x xs now turns (to_come is same) input =
+    subst (λ (y : View). EchoComes tells a w cookie bytes more rest xs (view_then y turns)) (sym same)
+    (first_comes tells a w cookie bytes more rest xs turns fits takes carried others (tail_is _ _ _ _ is)
     (subst (λ (y : List ℕ). HandleInput w.endpoint y turns) (head_is _ _ _ _ is) (subst (λ (y : View). HandleInput y.endpoint x turns) same input)))
-echo_step wire a w cookie bytes more rest fits takes carried others x xs now turns (has_come [] each is h) input = absurd (cc)
-echo_step wire a w cookie bytes more rest fits takes carried others x xs now turns (has_come (emission ∷ left) each is h) input =
-    next_comes wire a w cookie bytes more rest xs now emission left turns fits each (tail_is _ _ _ _ is) h (subst (λ (y : List ℕ). HandleInput now.endpoint y turns) (head_is _ _ _ _ is) input)
+echo_step wire tells a w cookie bytes more rest fits takes carried others x xs now turns (has_come [] each is h) input = absurd (cc)
+echo_step wire tells a w cookie bytes more rest fits takes carried others x xs now turns (has_come (emission ∷ left) each is h) input =
+    next_comes wire tells a w cookie bytes more rest xs now emission left turns fits each (tail_is _ _ _ _ is) h (subst (λ (y : List ℕ). HandleInput now.endpoint y turns) (head_is _ _ _ _ is) input)
 
-echo_keeps : (a options : Options) (w : View) (cookie : Cookie) (bytes : List ℕ) (more : List Content) (rest : List Emission) (xs : List (List ℕ)) (now : View) → w.endpoint.options ≡ options
-    → EchoComes a w cookie bytes more rest xs now → now.endpoint.options ≡ options
-echo_keeps a options w cookie bytes more rest xs now keep (to_come is same) = ap (λ (y : View). y.endpoint.options) same ∙ keep
-echo_keeps a options w cookie bytes more rest xs now keep (has_come left each is h) = h.options ∙ keep
+echo_keeps : (tells : ℕ → ℕ) (a options : Options) (w : View) (cookie : Cookie) (bytes : List ℕ) (more : List Content) (rest : List Emission) (xs : List (List ℕ)) (now : View) → w.endpoint.options ≡ options
+    → EchoComes tells a w cookie bytes more rest xs now → now.endpoint.options ≡ options
+echo_keeps tells a options w cookie bytes more rest xs now keep (to_come is same) = ap (λ (y : View). y.endpoint.options) same ∙ keep
+echo_keeps tells a options w cookie bytes more rest xs now keep (has_come left each is h) = h.options ∙ keep
 
-pub echo_along : Wire → (a options : Options) (w : View) (cookie : Cookie) (bytes : List ℕ) (more : List Content) (rest : List Emission) → w.endpoint.options ≡ options → EchoFits a w cookie → TakesEcho w a cookie bytes
-    → AreCarriedFor (echoing_end a w.endpoint.options cookie) more → AllCarryTo (echoing_end a w.endpoint.options cookie) rest → HoldsAlong options (EchoComes a w cookie bytes more rest)
-echo_along wire a options w cookie bytes more rest keep fits takes carried others =
-    record { keeps = λ xs now h. echo_keeps a options w cookie bytes more rest xs now keep h; step = echo_step wire a w cookie bytes more rest fits takes carried others }
+pub echo_along : Wire → (tells : ℕ → ℕ) (a options : Options) (w : View) (cookie : Cookie) (bytes : List ℕ) (more : List Content) (rest : List Emission) → w.endpoint.options ≡ options → EchoFits a w cookie → TakesEcho tells w a cookie bytes
+    → AreCarriedFor (echoing_end a w.endpoint.options cookie) more → AllCarryTo (echoing_end a w.endpoint.options cookie) rest → HoldsAlong options (EchoComes tells a w cookie bytes more rest)
+echo_along wire tells a options w cookie bytes more rest keep fits takes carried others =
+    record { keeps = λ xs now h. echo_keeps tells a options w cookie bytes more rest xs now keep h; step = echo_step wire tells a w cookie bytes more rest fits takes carried others }
 
 -- In the end it has come.
-pub echo_has_come : (a : Options) (w : View) (cookie : Cookie) (bytes : List ℕ) (more : List Content) (rest : List Emission) (now : View) → EchoComes a w cookie bytes more rest [] now → AckUnder w cookie now
-echo_has_come a w cookie bytes more rest now (to_come is same) = absurd (cc)
-echo_has_come a w cookie bytes more rest now (has_come left each is h) = h
+pub echo_has_come : (tells : ℕ → ℕ) (a : Options) (w : View) (cookie : Cookie) (bytes : List ℕ) (more : List Content) (rest : List Emission) (now : View) → EchoComes tells a w cookie bytes more rest [] now → AckUnderBy tells w cookie now
+echo_has_come tells a w cookie bytes more rest now (to_come is same) = absurd (cc)
+echo_has_come tells a w cookie bytes more rest now (has_come left each is h) = h

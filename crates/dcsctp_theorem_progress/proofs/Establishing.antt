@@ -59,30 +59,37 @@ goes_on t tag contents turns next rest =
 abbrev pub ack_then : Held → ℕ → List Content → Emission
 ack_then held tag more = record { with_checksum = held.capabilities.zero_checksum_method.0 == 0; packet = record { tag = tag; contents = cookie_ack ∷ more } }
 
--- The association is established, and the COOKIE ACK goes first.
-pub record EstablishesAlong (e : Endpoint) (cookie : Cookie) (turns : List Transition) : Type 0 where
+-- The association is established, and the COOKIE ACK goes first. OnConnected is told so often after that.
+pub record AcknowledgesAlong (tells : ℕ → ℕ) (e : Endpoint) (cookie : Cookie) (turns : List Transition) : Type 0 where
   pub core : (after_all e turns).core ≡ open_in established cookie.maker (held_by_cookie e.options cookie)
   pub options : (after_all e turns).options ≡ e.options
   pub flows : Flows (held_by_cookie e.options cookie) (after_all e turns)
-  pub told : (n : ℕ) → told_then (events_of turns) n ≡ suc n
+  pub told : (n : ℕ) → told_then (events_of turns) n ≡ tells n
   pub more : List Content
   pub carried : AreCarriedFor (held_by_cookie e.options cookie) more
   pub rest : List Emission
   pub others : AllCarryTo (held_by_cookie e.options cookie) rest
   pub packets : packets_of_events (events_of turns) ≡ ack_then (held_by_cookie e.options cookie) cookie.addressee.tag more ∷ rest
 
+-- once more, where there was none
+abbrev pub EstablishesAlong : Endpoint → Cookie → List Transition → Type 0
+EstablishesAlong e cookie turns = AcknowledgesAlong suc e cookie turns
+
 -- so far as the one chunk goes
-pub record Established (e : Endpoint) (cookie : Cookie) (o : Outcome) : Type 0 where
+pub record AcknowledgesOnce (tells : ℕ → ℕ) (e : Endpoint) (cookie : Cookie) (o : Outcome) : Type 0 where
   pub core : o.after.core ≡ open_in established cookie.maker (held_by_cookie e.options cookie)
   pub options : o.after.options ≡ e.options
   pub flows : Flows (held_by_cookie e.options cookie) o.after
   pub following : o.following ≡ next_chunk
-  pub told : (n : ℕ) → told_then o.events n ≡ suc n
+  pub told : (n : ℕ) → told_then o.events n ≡ tells n
   pub more : List Content
   pub carried : AreCarriedFor (held_by_cookie e.options cookie) more
   pub rest : List Emission
   pub others : AllCarryTo (held_by_cookie e.options cookie) rest
   pub packets : packets_of_events o.events ≡ ack_then (held_by_cookie e.options cookie) cookie.addressee.tag more ∷ rest
+
+abbrev pub Established : Endpoint → Cookie → Outcome → Type 0
+Established e cookie o = AcknowledgesOnce suc e cookie o
 
 established_by : (e : Endpoint) (at : Core) (cookie : Cookie) (bytes : List ℕ) (o : Outcome) → e.core ≡ at → resolved_now e at cookie.maker.tag cookie ≡ establish_new → cookie_of_bytes bytes ≡ Ok cookie
     → allows_packet e.options.max_burst ≡ true → AreOpen e.queues.queue.streams → CookieEchoTurn e cookie.maker.tag bytes o → Established e cookie o
@@ -120,14 +127,14 @@ established_by e at cookie bytes o is case_is reads may are turn =
       packets = f.packets;
     })
 
-establishes_chunks : (e : Endpoint) (at : Core) (cookie : Cookie) (bytes : List ℕ) (contents more : List Content) (turns rest : List Transition) → e.core ≡ at
-    → resolved_now (counted_at e) at cookie.maker.tag cookie ≡ establish_new → cookie_of_bytes bytes ≡ Ok cookie → allows_packet e.options.max_burst ≡ true → AreOpen e.queues.queue.streams
+begun_chunks : (e : Endpoint) (cookie : Cookie) (bytes : List ℕ) (contents more : List Content) (turns rest : List Transition)
+    → ((o : Outcome) → CookieEchoTurn (counted_at e) cookie.maker.tag bytes o → Established (counted_at e) cookie o)
     → AreCarriedFor (held_by_cookie e.options cookie) more → turns ≡ transition arrival (arrival_outcome e) ∷ transition (packet_begins contents) (still (counted_at e)) ∷ rest
     → ChunkTurns (counted_at e) cookie.maker.tag (cookie_echo bytes ∷ more) (packet_ends ∷ []) rest → EstablishesAlong e cookie turns
-establishes_chunks e at cookie bytes contents more turns [] is case_is reads may are each parts h = absurd h
-establishes_chunks e at cookie bytes contents more turns (t ∷ ts) is case_is reads may are each parts h =
+begun_chunks e cookie bytes contents more turns [] begins each parts h = absurd h
+begun_chunks e cookie bytes contents more turns (t ∷ ts) begins each parts h =
     let held : Held = held_by_cookie e.options cookie in
-    let f : Established (counted_at e) cookie t.outcome = established_by (counted_at e) at cookie bytes t.outcome is case_is reads may are h.0.comes in
+    let f : Established (counted_at e) cookie t.outcome = begins t.outcome h.0.comes in
     let last : StayAlong held t.outcome.after ts =
     walked held cookie.maker t.outcome.after cookie.maker.tag more ts f.core f.flows each (goes_on t cookie.maker.tag more ts f.following h.1) in
     subst (EstablishesAlong e cookie) (sym parts)
@@ -147,19 +154,20 @@ establishes_chunks e at cookie bytes contents more turns (t ∷ ts) is case_is r
 abbrev pub echo_then : Cookie → List ℕ → List Content → Emission
 echo_then cookie bytes more = record { with_checksum = true; packet = record { tag = cookie.maker.tag; contents = cookie_echo bytes ∷ more } }
 
--- A socket that knows no peer is established by its own cookie.
-pub establishes_along : HandshakeLaws → (e : Endpoint) (at : Core) (a : Options) (cookie : Cookie) (bytes : List ℕ) (more : List Content) (turns : List Transition) → e.core ≡ at → awaits_opening e e.core ≡ false
-    → resolved_now (counted_at e) at cookie.maker.tag cookie ≡ establish_new → ((has : Bool) (f : Endpoint) (o : Outcome) → BeginTurn f at has o → o ≡ still f) → Spells bytes cookie
-    → AreOpen e.queues.queue.streams → Good a → Good e.options → a.remote_port ≡ e.options.local_port → AreCarriedFor (held_by_cookie e.options cookie) more
+-- A socket at which the one chunk makes an association is established.
+pub begun_along : HandshakeLaws → (e : Endpoint) (at : Core) (a : Options) (cookie : Cookie) (bytes : List ℕ) (more : List Content) (turns : List Transition) → e.core ≡ at → awaits_opening e e.core ≡ false
+    → ((o : Outcome) → CookieEchoTurn (counted_at e) cookie.maker.tag bytes o → Established (counted_at e) cookie o)
+    → ((has : Bool) (f : Endpoint) (o : Outcome) → BeginTurn f at has o → o ≡ still f) → Spells bytes cookie
+    → Good a → a.remote_port ≡ e.options.local_port → AreCarriedFor (held_by_cookie e.options cookie) more
     → HandleInput e (emission_bytes (ports_of a) (echo_then cookie bytes more)) turns → EstablishesAlong e cookie turns
-establishes_along law e at a cookie bytes more turns is asks case_is begins spells are good_a good_b port each input =
+begun_along law e at a cookie bytes more turns is asks takes begins spells good port each input =
     let held : Held = held_by_cookie e.options cookie in
     let ordinary : AreOrdinary more = are_ordinary held.capabilities.message_interleaving held.capabilities.partial_reliability more each in
     let emission : Emission = echo_then cookie bytes more in
     let h : WholeTaken e emission.packet turns =
     whole_taken law.wire e a emission turns
     (record {
-      fits = good_a.fits;
+      fits = good.fits;
       sendable = record { tag = spells.own.tag; contents = (echo_sendable bytes spells.fits, carried_sendable held.capabilities.message_interleaving held.capabilities.partial_reliability more each) };
       minima = (tt, ordinary.minima);
       echo_in_front = ordinary.no_echo;
@@ -169,4 +177,13 @@ establishes_along law e at a cookie bytes more turns is asks case_is begins spel
     (echo_admitted e.core emission.packet (first_abort emission.packet.contents) (first_shutdown_complete emission.packet.contents) (has_shutdown_ack emission.packet.contents) (emission.packet.tag == 0)
     ordinary.no_abort ordinary.no_complete ordinary.no_ack) asks
     (λ o rests. begins (has_data_chunk e.options.follow_rfc emission.packet.contents) (counted_at e) o (subst (λ (core : Core). BeginTurn (counted_at e) core (has_data_chunk e.options.follow_rfc emission.packet.contents) o) is rests)) input in
-    establishes_chunks e at cookie bytes emission.packet.contents more turns h.rest is case_is spells.reads good_b.allow.burst are each h.parts h.chunks
+    begun_chunks e cookie bytes emission.packet.contents more turns h.rest takes each h.parts h.chunks
+
+-- A socket that knows no peer is established by its own cookie.
+pub establishes_along : HandshakeLaws → (e : Endpoint) (at : Core) (a : Options) (cookie : Cookie) (bytes : List ℕ) (more : List Content) (turns : List Transition) → e.core ≡ at → awaits_opening e e.core ≡ false
+    → resolved_now (counted_at e) at cookie.maker.tag cookie ≡ establish_new → ((has : Bool) (f : Endpoint) (o : Outcome) → BeginTurn f at has o → o ≡ still f) → Spells bytes cookie
+    → AreOpen e.queues.queue.streams → Good a → Good e.options → a.remote_port ≡ e.options.local_port → AreCarriedFor (held_by_cookie e.options cookie) more
+    → HandleInput e (emission_bytes (ports_of a) (echo_then cookie bytes more)) turns → EstablishesAlong e cookie turns
+establishes_along law e at a cookie bytes more turns is asks case_is begins spells are good_a good_b port each input =
+    begun_along law e at a cookie bytes more turns is asks (λ o turn. established_by (counted_at e) at cookie bytes o is case_is spells.reads good_b.allow.burst are turn)
+    begins spells good_a port each input

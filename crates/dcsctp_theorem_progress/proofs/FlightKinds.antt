@@ -139,7 +139,7 @@ acknowledged_kind now cumulative window blocks old new h =
     settled_kind now window count (acknowledged_until count blocks h.limit newest (exiting cumulative old)) in
     named_same old (window_after_settling now window count (acknowledged_until count blocks h.limit newest (exiting cumulative old))) new h.is (settled.0 ∙ until.0, settled.1 ∙ until.1)
 
-timed_kind : (round_trip : Option ℕ) (transfer : Transfer) → SameKind transfer.retransmission (timed_transfer round_trip transfer).retransmission
+pub timed_kind : (round_trip : Option ℕ) (transfer : Transfer) → SameKind transfer.retransmission (timed_transfer round_trip transfer).retransmission
 timed_kind None transfer = (refl, refl)
 timed_kind (Some round_trip) transfer = (refl, refl)
 

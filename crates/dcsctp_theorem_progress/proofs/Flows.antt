@@ -3,10 +3,11 @@ use Rattle.std.proofs.Common.{◌≡◌, ℕ, suc, Bool, true, false, ◌&&◌, 
 use Rattle.std.specs.List.{AllByRecursion}
 use Rattle.std.proofs.lemmas.List.{append-nil}
 use Rattle.dcsctp_spec_lemmas.specs.types.declared.association.Held.{Held}
+use Rattle.dcsctp_spec_lemmas.specs.types.declared.association.Pair.{Pair}
 use Rattle.dcsctp_spec_lemmas.specs.spec.Packet.{Plain, Content, Emission}
 use Rattle.dcsctp_spec_lemmas.specs.spec.association.Choices.{plain_contents}
 use Rattle.dcsctp_spec_lemmas.specs.spec.endpoint.BegunResets.{BegunReset, request_contents, retransmission_begun, after_begun}
-use Rattle.dcsctp_spec_lemmas.specs.spec.endpoint.Endpoint.{Endpoint, held_by_core}
+use Rattle.dcsctp_spec_lemmas.specs.spec.endpoint.Endpoint.{Endpoint, Core, cookie_echoed, open_in, established, held_by_core}
 use Rattle.dcsctp_spec_lemmas.specs.spec.endpoint.Event.{Event, sent, connected, packets_of_events}
 use Rattle.dcsctp_spec_lemmas.specs.spec.endpoint.FlushOutcomes.{FillingEvent, amount_is_low, total_amount_is_low, message_is_sent, message_may_have_expired, message_has_expired, message_ends, filling_event, Answer, answer_contents, filled_draft, goes_out, asked_outcome, draft_to, FitsPlain, Ask, first_ask, later_ask, room_of_draft, wants_sack, may_forward, stage_of, Gives, GivesUpThenForwards, forward_made, GivesUnlessIdle, IsAnswerOfQueues, IsFlushAnswer}
 use Rattle.dcsctp_spec_lemmas.specs.spec.queues.Filling.{Stage}
@@ -22,6 +23,15 @@ use Rattle.dcsctp_theorem_progress.proofs.FlightKinds.{SameKind, gave_up_kind, a
 use Rattle.dcsctp_theorem_progress.proofs.Carried.{AreCarried, CarriesTo, both_carried, plain_carried, all_both, data_carried, forwards_carried, sacks_carried}
 
 -- ---- an association with this peer
+
+-- It is Established with this peer, or awaits its COOKIE ACK.
+pub data HasPeer (my : Pair) (held : Held) (core : Core) : Type 0 where
+  is_open : core ≡ open_in established my held → HasPeer my held core
+  is_echoing : (bytes : List ℕ) → core ≡ cookie_echoed my held bytes → HasPeer my held core
+
+pub peer_stays : (my : Pair) (held : Held) (core other : Core) → other ≡ core → HasPeer my held core → HasPeer my held other
+peer_stays my held core other same (is_open is) = is_open (same ∙ is)
+peer_stays my held core other same (is_echoing bytes is) = is_echoing bytes (same ∙ is)
 
 -- What is in flight is of the kind that was negotiated.
 pub record IsOfKind (held : Held) (e : Endpoint) : Type 0 where

@@ -13,6 +13,7 @@ use Rattle.dcsctp_spec_lemmas.proofs.FlushKeeps.{Keeps, begun_by, later_begins, 
 use Rattle.dcsctp_theorem_sockets.proofs.Bursts.{packets_of_events-append}
 use Rattle.dcsctp_delivery_directions.proofs.sending.OpenStreams.{flush_open, flush_asks_none}
 use Rattle.dcsctp_theorem_progress.proofs.Views.{told_then}
+use Rattle.dcsctp_theorem_progress.proofs.Constant.{SameClock, flush_same, KeepsTrying, same_trying}
 use Rattle.dcsctp_theorem_progress.proofs.Carried.{CarriesTo, both_carried}
 use Rattle.dcsctp_theorem_progress.proofs.Flows.{IsOfKind, Flows, AllCarryTo, AreCarriedFor, answered, asked_kind, told_packets, told_nothing, told-append, TellsCarried, tells_both, out_tells}
 
@@ -60,6 +61,11 @@ flushed _ _ held _ _ _ (after_packet ask more e draft answer answers is some res
       tells = tells_both held (asked_outcome e draft answer).events (flush_of after (next_draft e.core draft) answers).events (asked_tells ask held e draft answer is k none good) others.tells;
     }
 
+flush_trying : (n : ℕ) (e : Endpoint) (draft : Emission) (answers : List Answer) → AreFlushAnswers first_ask n e draft answers → KeepsTrying e (flush_of e draft answers).after
+flush_trying n e draft answers allowed =
+    let same : SameClock e (flush_of e draft answers).after = flush_same first_ask n e draft answers allowed in
+    same_trying e (flush_of e draft answers).after same.moment (flush_keeps first_ask n e draft answers allowed).t1 same.errors
+
 -- The association stays, OnConnected isn't told, and each packet is taken by the peer.
 pub record Stays (held : Held) (e : Endpoint) (o : Outcome) : Type 0 where
   pub core : o.after.core ≡ e.core
@@ -68,6 +74,7 @@ pub record Stays (held : Held) (e : Endpoint) (o : Outcome) : Type 0 where
   pub flows : Flows held o.after
   pub tells : TellsCarried held o.events
   pub following : o.following ≡ next_chunk
+  pub trying : KeepsTrying e o.after
 
 begun_asked : (begun : Option BegunReset) (e : Endpoint) → (after_begun begun e).shutdown_asked ≡ e.shutdown_asked
 begun_asked None e = refl
@@ -104,6 +111,7 @@ flush_stays held e draft answers f good allowed =
       flows = record { kind = h.kind; unpaused = flush_open first_ask n e draft answers allowed f.unpaused };
       tells = h.tells;
       following = keeps.following;
+      trying = flush_trying n e draft answers allowed;
     }
 
 -- ---- after a chunk
@@ -116,6 +124,7 @@ pub record Fronts (held : Held) (e : Endpoint) (with_checksum : Bool) (tag : ℕ
   pub asked : o.after.shutdown_asked ≡ e.shutdown_asked
   pub flows : Flows held o.after
   pub following : o.following ≡ next_chunk
+  pub trying : KeepsTrying e o.after
   pub told : (n : ℕ) → told_then o.events n ≡ n
   pub more : List Content
   pub carried : AreCarriedFor held more
@@ -192,6 +201,7 @@ flush_fronts held e with_checksum tag front answers may f allowed =
       asked = flush_asked first_ask n e draft answers allowed;
       flows = record { kind = h.kind; unpaused = flush_open first_ask n e draft answers allowed f.unpaused };
       following = keeps.following;
+      trying = flush_trying n e draft answers allowed;
       told = h.told;
       more = h.more;
       carried = h.carried;

@@ -58,22 +58,22 @@ first_done earlier act acts run h =
 
 -- ---- a packet among others
 
-found : (before : List (List ℕ)) (x : List ℕ) (after : List (List ℕ)) → packet_at_number (suc (length before)) (before ++ x ∷ after) ≡ Some x
+pub found : (before : List (List ℕ)) (x : List ℕ) (after : List (List ℕ)) → packet_at_number (suc (length before)) (before ++ x ∷ after) ≡ Some x
 found [] x after = refl
 found (y ∷ before) x after = found before x after
 
-abbrev to_other : Side → ℕ → ActContent
+abbrev pub to_other : Side → ℕ → ActContent
 to_other side number = step_act (delivery_step (other_side side) number)
 
-abbrev then_done : Side → ℕ → List Transition → List PerformedAct → List PerformedAct
+abbrev pub then_done : Side → ℕ → List Transition → List PerformedAct → List PerformedAct
 then_done side number turns earlier = record { act = to_other side number; turns = turns } ∷ earlier
 
 -- The packet of this number is handed to the other.
-record OneHanded (side : Side) (options : Both Options) (run : List PerformedAct) (v w : View) (x : List ℕ) (turns : List Transition) : Type 0 where
-  input : HandleInput w.endpoint x turns
-  at : AtOf side options run v (view_then w turns)
+pub record OneHanded (side : Side) (options : Both Options) (run : List PerformedAct) (v w : View) (x : List ℕ) (turns : List Transition) : Type 0 where
+  pub input : HandleInput w.endpoint x turns
+  pub at : AtOf side options run v (view_then w turns)
 
-one_handed : (side : Side) (options : Both Options) (earlier : List PerformedAct) (v w : View) (x : List ℕ) (number : ℕ) (turns : List Transition) → AtOf side options earlier v w
+pub one_handed : (side : Side) (options : Both Options) (earlier : List PerformedAct) (v w : View) (x : List ℕ) (number : ℕ) (turns : List Transition) → AtOf side options earlier v w
     → w.endpoint.options ≡ of_other side options → packet_at_number number v.shown ≡ Some x → SocketRun options (then_done side number turns earlier)
     → OneHanded side options (then_done side number turns earlier) v w x turns
 one_handed sides.A options earlier v w x number turns at keep is runs =
@@ -159,7 +159,7 @@ pub record UnderAll (settled : Both ℕ) (side : Side) (v w : View) (xs : List (
 less_first : (n m k : ℕ) → k ≡ n + m → k - n ≡ m
 less_first n m k is = omega (arith, is)
 
-so_many : (before xs : List (List ℕ)) → length (before ++ xs) - length before ≡ length xs
+pub so_many : (before xs : List (List ℕ)) → length (before ++ xs) - length before ≡ length xs
 so_many before xs = less_first (length before) (length xs) (length (before ++ xs)) (length-append before xs)
 
 pub many : (side : Side) (settled : ℕ) (before xs : List (List ℕ)) (shown : List (List ℕ)) → shown ≡ before ++ xs → settled ≡ length before

@@ -18,7 +18,7 @@ use Rattle.dcsctp_theorem_progress.specs.LossyRounds.{LossyExchanges, LossyRound
 use Rattle.dcsctp_theorem_progress.specs.Retries.{RetriesT1}
 use Rattle.dcsctp_theorem_progress.specs.Rounds.{counts_shown}
 use Rattle.dcsctp_theorem_sockets.proofs.HandshakeTurns.{HandshakeLaws}
-use Rattle.dcsctp_theorem_progress.proofs.AckLost.{echoed_beside, linked_with}
+use Rattle.dcsctp_theorem_progress.proofs.StillAwaiting.{echoed_beside, linked_with}
 use Rattle.dcsctp_theorem_progress.proofs.EchoLost.{Turned, now_answers, turned_by, after_again, same_count}
 use Rattle.dcsctp_theorem_progress.proofs.EchoRound.{Echo, echo_of, Acknowledged, acknowledged, again}
 use Rattle.dcsctp_theorem_progress.proofs.EchoRuns.{held_here, owes_same, pairs_fit}

@@ -1,4 +1,4 @@
--- A lossy round before the COOKIE ECHO: INIT, INIT ACK, COOKIE ECHO and COOKIE ACK, as far as they come.
+-- A lossy round before the COOKIE ECHO: INIT, INIT ACK, COOKIE ECHO and COOKIE ACK, as far as they come, and data behind these.
 use Rattle.std.specs.Duration.{max_nanos}
 use Rattle.std.proofs.Common.{◌≡◌, ◌≤◌, ℕ, suc, false, List, length, refl, sym, subst, ◌∙◌}
 use Rattle.dcsctp_spec_lemmas.specs.types.declared.association.Pair.{Pair}
@@ -15,76 +15,26 @@ use Rattle.dcsctp_spec_runs.specs.Sockets.{PerformedAct, Both, turns_after, Sock
 use Rattle.dcsctp_theorem_sockets.specs.Agreement.{AreUsable}
 use Rattle.dcsctp_theorem_sockets.specs.Handshake.{AreFitting}
 use Rattle.dcsctp_theorem_progress.specs.Connecting.{RestsWithoutTag}
-use Rattle.dcsctp_theorem_progress.specs.Cookies.{HasEchoed, not_yet}
-use Rattle.dcsctp_theorem_progress.specs.LossyRounds.{LossyExchanges, LossyRound, still_inits, still_echoes}
-use Rattle.dcsctp_theorem_progress.specs.LostInits.{NothingWaits, AwaitsInitAck}
 use Rattle.dcsctp_theorem_progress.specs.Retries.{LeavesRestarts, RetriesInit}
 use Rattle.dcsctp_theorem_progress.specs.Rounds.{counts_shown}
-use Rattle.dcsctp_theorem_sockets.proofs.HandshakeReads.{counted_at}
 use Rattle.dcsctp_theorem_sockets.proofs.HandshakeTurns.{HandshakeLaws, answer_to}
-use Rattle.dcsctp_theorem_progress.proofs.Chain.{begun, acknowledged}
-use Rattle.dcsctp_theorem_progress.proofs.EchoRound.{Echo}
-use Rattle.dcsctp_theorem_progress.proofs.Echoes.{answer_packet, Echoes, echoes, echo_packet, EstablishesBy}
-use Rattle.dcsctp_theorem_progress.proofs.Facts.{Fit, fits_drawn, secret_fits, owes_none, idle_waiting, idle_established}
 use Rattle.dcsctp_theorem_progress.proofs.Handed.{Settles, settles, keep_same}
-use Rattle.dcsctp_theorem_progress.proofs.Lossy.{HandedOrLost, given, lost, maybe_handed, BackOrLost, given_back, lost_back, maybe_back, lossy_end, ran_lossy}
-use Rattle.dcsctp_theorem_progress.proofs.LossyEcho.{Led, as_far, Acking, acked}
 use Rattle.dcsctp_theorem_progress.proofs.Promise.{MovedOf, fit_of, lesser_of, moment_is, moves_of}
 use Rattle.dcsctp_theorem_progress.proofs.Retries.{awaits_next, never, next_fits, Onward, onward, Resting, resting, fewer as less_restarts}
-use Rattle.dcsctp_theorem_progress.proofs.Starts.{answered}
+use Rattle.dcsctp_theorem_progress.proofs.Starts.{answered, replied_anew}
 use Rattle.dcsctp_theorem_progress.proofs.Turns.{Answers, answers, init_packet, init_repeated, t1_sends_init}
 use Rattle.dcsctp_theorem_progress.proofs.Views.{AtOf, KeepOf, View, view_then}
-use Rattle.dcsctp_theorem_progress.proofs.GivenCookies.{still_nothing, takes_alone, Start, cookie_given, echoing, has_echoed, t1_begun, takes_it}
-
--- ---- COOKIE ECHO and COOKIE ACK
-
-by_echo : HandshakeLaws → (side : Side) (options : Both Options) (settled settled' : Both ℕ) (earlier run : List PerformedAct) (v w : View) (p : Pair) (moment more word next tie : ℕ) →
-    let here = echoing v w p moment word next tie in
-    let there = answered v w p word next in
-    let cookie = cookie_given v w p word next in
-    Start side options v w p moment more → AtOf side options earlier here there → (rest : LossyExchanges options 2 settled earlier settled' run)
-    → HandedOrLost side options earlier rest.0 here there (echo_packet v.endpoint.options cookie) → SocketRun options run → Led side options run more (suc v.told) (suc w.told)
-by_echo law side options settled settled' earlier run v w p moment more word next tie s at rest (lost same) runs =
-    let here : View = echoing v w p moment word next tie in
-    let there : View = answered v w p word next in
-    let cookie : Cookie = cookie_given v w p word next in
-    let is : run ≡ earlier = lossy_end 1 side options settled settled' earlier rest.0 run here there at same rest.2 in
-    as_far here there (subst (λ (r : List PerformedAct). AtOf side options r here there) (sym is) at) (keep_same side options v w here there refl refl s.ground.keep)
-    (still_echoes cookie (cookie_bytes cookie) (has_echoed law side options v w p moment more word next tie s) (t1_begun side options v w p moment more word next tie s)
-    (not_yet (takes_it side options v w p moment more word next s)))
-by_echo law side options settled settled' earlier run v w p moment more word next tie s at rest (given h) runs =
-    let here : View = echoing v w p moment word next tie in
-    let there : View = answered v w p word next in
-    let f : Endpoint = there.endpoint in
-    let q : Pair = pair_from word next in
-    let cookie : Cookie = cookie_given v w p word next in
-    let one : EstablishesBy f cookie (cookie_bytes cookie) h.turns = takes_alone law side options v w p moment more word next h.turns s h.input in
-    let last : View = acknowledged there cookie one.tie in
-    let h' : HasEchoed here.endpoint there.endpoint cookie (cookie_bytes cookie) = has_echoed law side options v w p moment more word next tie s in
-    let counts : Settles (counts_shown options (turns_after earlier)) side (length here.shown) (length there.shown) = settles side options earlier here there at in
-    let echo : Echo = record { cookie = cookie; bytes = cookie_bytes cookie; mine = suc v.told; others = suc w.told } in
-    let acking : Acking side options here last echo more = record {
-      keep = keep_same side options v w here last refl refl s.ground.keep;
-      fit = s.ground.fit;
-      echoed = record {
-        core = h'.core;
-        reads = h'.reads;
-        fits = h'.fits;
-        offer = h'.offer;
-        idle = h'.idle;
-        owes = h'.owes;
-        delay = h'.delay;
-        asks = h'.asks;
-        errors = h'.errors;
-      };
-      t1 = t1_begun side options v w p moment more word next tie s;
-      had_it = record { core = refl; idle = idle_established (counted_at f) cookie one.tie s.nothing.there; owes = (refl, refl) };
-      mine = refl;
-      others = refl;
-    } in
-    acked law 0 side options (counts_shown options (turns_after earlier)) settled' rest.0 run here last echo more
-    (subst (λ (os : List Transition). AtOf side options rest.0 here (view_then there os)) one.only h.at) acking
-    (record { before = there.shown; shown = refl; others = counts.others; mine = counts.mine }) rest.2 runs
+use Rattle.dcsctp_theorem_progress.specs.LossyRounds.{LossyExchanges, LossyRound, still_inits, takes_it}
+use Rattle.dcsctp_theorem_progress.specs.LostInits.{AwaitsInitAck}
+use Rattle.dcsctp_theorem_progress.proofs.Carrying.{EchoesAlong, echoes_along}
+use Rattle.dcsctp_theorem_progress.proofs.Chain.{begun}
+use Rattle.dcsctp_theorem_progress.proofs.Echoes.{answer_packet}
+use Rattle.dcsctp_theorem_progress.proofs.Facts.{Fit, fits_drawn, secret_fits, owes_unheld}
+use Rattle.dcsctp_theorem_progress.proofs.GivenCookies.{Start, cookie_given, t1_begun, awaits_ack, goes_alone, takes_cookie}
+use Rattle.dcsctp_theorem_progress.proofs.Lossy.{HandedOrLost, given, lost, maybe_handed, BackOrLost, given_back, lost_back, maybe_back, lossy_end, ran_lossy}
+use Rattle.dcsctp_theorem_progress.proofs.Answering.{Awaiting, Answering, answering}
+use Rattle.dcsctp_theorem_progress.proofs.LossyAcks.{echo_led}
+use Rattle.dcsctp_theorem_progress.proofs.LossyEcho.{Led, as_far}
 
 -- ---- INIT ACK
 
@@ -99,7 +49,7 @@ by_answer law side options settled settled' earlier run v w p moment more word n
     let there : View = answered v w p word next in
     let is : run ≡ earlier = lossy_end 2 side options settled settled' earlier rest.0 run here there at same rest.2 in
     as_far here there (subst (λ (r : List PerformedAct). AtOf side options r here there) (sym is) at) (keep_same side options v w here there refl refl s.ground.keep)
-    (still_inits p (record { here = s.nothing.here; there = s.nothing.there }) s.again
+    (still_inits p s.again
     (record {
       rests = record { core = s.rests.rests.core; unheld = s.rests.rests.unheld; unpaused = s.rests.rests.unpaused; secret = secret_fits w.endpoint (pair_from word next) (fits_drawn word next) s.rests.rests.secret };
       anew = s.rests.anew;
@@ -112,15 +62,23 @@ by_answer law side options settled settled' earlier run v w p moment more word n
     let there : View = answered v w p word next in
     let q : Pair = pair_from word next in
     let cookie : Cookie = cookie_given v w p word next in
-    let one : Echoes here.endpoint p (answer_to a b p q) cookie i.turns =
-    echoes law here.endpoint b p q cookie i.turns s.ground.awaits.core (λ tie. idle_waiting (counted_at here.endpoint) p (answer_to a b p q) (cookie_bytes cookie) tie s.nothing.here)
-    s.ground.fit.good_a s.ground.fit.good_b s.ground.awaits.pair (fits_drawn word next) s.ground.fit.to_a i.input in
-    let after : View = echoing v w p moment word next one.tie in
-    let at_after : AtOf side options rest.0 after there = subst (λ (os : List Transition). AtOf side options rest.0 (view_then here os) there) one.only i.at in
-    let counts : Settles (counts_shown options (turns_after earlier)) side (length here.shown) (length there.shown) = settles side options earlier here there at in
-    by_echo law side options (counts_shown options (turns_after earlier)) settled' rest.0 run v w p moment more word next one.tie s at_after rest.2
-    (maybe_handed side options (counts_shown options (turns_after earlier)) rest.0 rest.2.0 after there (echo_packet a cookie) at_after (keep_same side options v w after there refl refl s.ground.keep)
-    (record { before = here.shown; shown = refl; mine = counts.mine; others = counts.others }) rest.2.1 (ran_lossy options 1 _ settled' rest.2.0 run rest.2.2 runs)) runs
+    let bytes : List ℕ = cookie_bytes cookie in
+    let one : EchoesAlong here.endpoint p (answer_to a b p q) bytes i.turns =
+    echoes_along law here.endpoint b p q cookie i.turns s.ground.awaits.core s.ground.fit.good_a s.ground.fit.good_b s.ground.awaits.pair (fits_drawn word next) s.ground.fit.to_a i.input in
+    let after : View = view_then here i.turns in
+    let awaiting : Awaiting side options after there cookie bytes more = record {
+      keep = keep_same side options v w after there one.options refl s.ground.keep;
+      fit = subst (λ (o : Options). Fit o b) (sym one.options) s.ground.fit;
+      awaits = awaits_ack law side options v w p moment more word next i.turns s one;
+      t1 = t1_begun side options v w p moment more (answer_to a b p q) bytes one.word after.endpoint s one.trying;
+    } in
+    let answers : Answering there after.endpoint.options cookie bytes (suc there.told) =
+    subst (λ (o : Options). Answering there o cookie bytes (suc there.told)) (sym one.options)
+    (answering suc there a cookie bytes (replied_anew law side options v w p moment word next s.ground s.rests.rests s.rests.anew).takes) in
+    subst (λ (k : ℕ). Led side options run more (suc k) (suc w.told)) (one.told v.told)
+    (echo_led law.wire 1 side options (counts_shown options (turns_after earlier)) settled' rest.0 run after there cookie bytes here.shown more (suc there.told) awaiting
+    (takes_it (takes_cookie side options v w p moment more word next s)) answers (goes_alone law side options v w p moment more word next i.turns s one) i.at
+    (settles side options earlier here there at) rest.2 runs)
 
 -- ---- INIT
 
@@ -130,13 +88,13 @@ by_init : HandshakeLaws → (side : Side) (options : Both Options) (settled sett
 by_init law side options settled settled' earlier run v w p moment more s at rest (lost same) runs =
     let here : View = begun v p moment in
     let is : run ≡ earlier = lossy_end 3 side options settled settled' earlier rest.0 run here w at same rest.2 in
-    as_far here w (subst (λ (r : List PerformedAct). AtOf side options r here w) (sym is) at) (keep_same side options v w here w refl refl s.ground.keep) (still_inits p (record { here = s.nothing.here; there = s.nothing.there }) s.again s.rests s.errors)
+    as_far here w (subst (λ (r : List PerformedAct). AtOf side options r here w) (sym is) at) (keep_same side options v w here w refl refl s.ground.keep) (still_inits p s.again s.rests s.errors)
 by_init law side options settled settled' earlier run v w p moment more s at rest (given h) runs =
     let a : Options = v.endpoint.options in
     let f : Endpoint = w.endpoint in
     let here : View = begun v p moment in
     let one : Answers f (introduction_of a p) h.turns =
-    answers law f a p h.turns s.rests.rests.core (owes_none f s.nothing.there) s.ground.fit.good_a s.ground.fit.good_b s.ground.awaits.pair s.ground.fit.to_b h.input in
+    answers law f a p h.turns s.rests.rests.core (owes_unheld f s.rests.rests.unheld) s.ground.fit.good_a s.ground.fit.good_b s.ground.awaits.pair s.ground.fit.to_b h.input in
     let there : View = answered v w p one.word one.next in
     let at_there : AtOf side options rest.0 here there = subst (λ (os : List Transition). AtOf side options rest.0 here (view_then w os)) one.only h.at in
     let counts : Settles (counts_shown options (turns_after earlier)) side (length here.shown) (length w.shown) = settles side options earlier here w at in
@@ -147,10 +105,10 @@ by_init law side options settled settled' earlier run v w p moment more s at res
 -- ---- the round
 
 pub lossy_init : HandshakeLaws → (side : Side) (options : Both Options) (settled : Both ℕ) (earlier run : List PerformedAct) (v w : View) (p : Pair) (more : ℕ) → AreUsable options → AreFitting options
-    → AtOf side options earlier v w → KeepOf side options v w → NothingWaits v.endpoint w.endpoint → RetriesInit v.endpoint p (suc more) → RestsWithoutTag w.endpoint → LeavesRestarts v.endpoint.options.max_init_retransmits 0 (suc more)
+    → AtOf side options earlier v w → KeepOf side options v w → RetriesInit v.endpoint p (suc more) → RestsWithoutTag w.endpoint → LeavesRestarts v.endpoint.options.max_init_retransmits 0 (suc more)
     → is_exhausted v.endpoint.options.max_retransmissions v.endpoint.error_count ≡ false
     → LossyRound options (counts_shown options (turns_after earlier)) earlier settled run → SocketRun options run → Led side options run more (suc v.told) (suc w.told)
-lossy_init law side options settled earlier run v w p more are fit at keep nothing tries rests restarts errors lossy runs =
+lossy_init law side options settled earlier run v w p more are fit at keep tries rests restarts errors lossy runs =
     let moment : ℕ = lesser_of side v w in
     let good : Fit v.endpoint.options w.endpoint.options = fit_of side options v w are fit keep in
     let between : SocketRun options lossy.between = ran_lossy options 4 _ settled lossy.between run lossy.exchanges runs in
@@ -165,7 +123,6 @@ lossy_init law side options settled earlier run v w p more are fit at keep nothi
     let there : View = view_then w moved.others in
     let kept : KeepOf side options v there = keep_same side options v w v there refl still.same keep in
     let s : Start side options v there p moment more = record {
-      nothing = still_nothing v.endpoint w.endpoint v.endpoint there.endpoint refl refl still.queues still.same nothing;
       ground = record { awaits = awaits; fit = subst (λ (o : Options). Fit v.endpoint.options o) (sym still.same) good; keep = kept };
       rests = still.rests;
       again = subst (λ (os : List Transition). RetriesInit (view_then v os).endpoint p more) is on.tries;

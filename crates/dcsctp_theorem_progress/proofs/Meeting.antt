@@ -1,5 +1,5 @@
 -- COOKIE ECHOs of both sides are under way, with data behind them and packets of data after them: two exchanges connect both.
-use Rattle.std.proofs.Common.{◌≡◌, ◌≢◌, ◌⊎◌, ℕ, true, List, length, refl, sym, subst, ap, ◌∙◌}
+use Rattle.std.proofs.Common.{◌≡◌, ◌≢◌, ◌⊎◌, ℕ, suc, true, List, length, refl, sym, subst, ap, ◌∙◌}
 use Rattle.std.specs.Prelude.{◌==◌}
 use Rattle.dcsctp_spec_lemmas.specs.types.declared.association.Held.{Held}
 use Rattle.dcsctp_spec_lemmas.specs.types.declared.association.Pair.{Pair}
@@ -50,7 +50,7 @@ own_end a b c d maker addressee offered =
 
 -- The other takes the COOKIE ECHO.
 takes : Wire → (v w : View) (c d : Cookie) (bytes echoed : List ℕ) (before_v before_w : List (List ℕ)) → Meets v w c d bytes echoed before_v → Meets w v d c echoed bytes before_w → Fit v.endpoint.options w.endpoint.options
-    → TakesEcho w v.endpoint.options c bytes
+    → TakesEcho suc w v.endpoint.options c bytes
 takes wire v w c d bytes echoed before_v before_w here there fit =
     let a : Options = v.endpoint.options in
     let b : Options = w.endpoint.options in
@@ -124,16 +124,16 @@ pub both_met : Wire → (options : Both Options) (v w : View) (c d : Cookie) (by
 both_met wire options v w c d bytes echoed before_v before_w settled settled' earlier run m at counts rest runs =
     let a : Options = v.endpoint.options in
     let b : Options = w.endpoint.options in
-    let HoldsB : List (List ℕ) → View → Type 0 = EchoComes a w c bytes m.here.under.more m.here.under.rest in
-    let HoldsA : List (List ℕ) → View → Type 0 = EchoComes b v d echoed m.there.under.more m.there.under.rest in
+    let HoldsB : List (List ℕ) → View → Type 0 = EchoComes suc a w c bytes m.here.under.more m.here.under.rest in
+    let HoldsA : List (List ℕ) → View → Type 0 = EchoComes suc b v d echoed m.there.under.more m.there.under.rest in
     let all : BothHandedAll options rest.0 HoldsB HoldsA =
     both_handed_all options settled HoldsB HoldsA earlier rest.0 v w _ _
-    (echo_along wire a options.b w c bytes m.here.under.more m.here.under.rest m.keep.b (echo_fits v w c d bytes echoed before_v m.here m.fit)
+    (echo_along wire suc a options.b w c bytes m.here.under.more m.here.under.rest m.keep.b (echo_fits v w c d bytes echoed before_v m.here m.fit)
     (takes wire v w c d bytes echoed before_v before_w m.here m.there m.fit) m.here.under.carried m.here.under.others)
-    (echo_along wire b options.a v d echoed m.there.under.more m.there.under.rest m.keep.a (echo_fits w v d c echoed bytes before_w m.there (swap a b m.fit))
+    (echo_along wire suc b options.a v d echoed m.there.under.more m.there.under.rest m.keep.a (echo_fits w v d c echoed bytes before_w m.there (swap a b m.fit))
     (takes wire w v d c echoed bytes before_w before_v m.there m.here (swap a b m.fit)) m.there.under.carried m.there.under.others)
     at (record { before_a = before_v; before_b = before_w; shown_a = m.here.under.shown; shown_b = m.there.under.shown; settled_a = counts.mine; settled_b = counts.others }) (to_come refl refl) (to_come refl refl) rest.1
     (ran_exchanges options 1 _ rest.0 settled' run rest.2 runs) in
     acknowledged wire options v w all.here all.there c d bytes echoed before_v before_w (counts_shown options (turns_after earlier)) settled' rest.0 run m
-    (echo_has_come a w c bytes m.here.under.more m.here.under.rest all.there all.holds_there) (echo_has_come b v d echoed m.there.under.more m.there.under.rest all.here all.holds_here)
+    (echo_has_come suc a w c bytes m.here.under.more m.here.under.rest all.there all.holds_there) (echo_has_come suc b v d echoed m.there.under.more m.there.under.rest all.here all.holds_here)
     all.at (settles sides.A options earlier v w at) rest.2 runs

@@ -1,5 +1,5 @@
 -- The cookie that a socket echoes is one that the other made for it.
-use Rattle.std.proofs.Common.{◌≡◌, ℕ, List, [], ◌∷◌, inl, inr, refl, sym, subst, ap, ◌∙◌}
+use Rattle.std.proofs.Common.{◌≡◌, ℕ, Option, Some, List, [], ◌∷◌, inl, inr, refl, sym, subst, ap, ◌∙◌}
 use Rattle.dcsctp_spec_lemmas.specs.types.declared.association.Held.{Held}
 use Rattle.dcsctp_spec_lemmas.specs.types.declared.association.Pair.{Pair}
 use Rattle.dcsctp_spec_lemmas.specs.types.declared.capabilities.Capabilities.{Capabilities}
@@ -9,6 +9,7 @@ use Rattle.dcsctp_spec_lemmas.specs.types.declared.options.Options.{Options}
 use Rattle.dcsctp_spec_lemmas.specs.types.declared.schedule.Side.{Side}
 use Rattle.dcsctp_spec_lemmas.specs.types.declared.schedule.Side.TheVariants as sides
 use Rattle.dcsctp_spec_lemmas.specs.types.Offer.{offer_of, negotiated_capabilities}
+use Rattle.dcsctp_spec_lemmas.specs.spec.queues.Transfer.{Transfer}
 use Rattle.dcsctp_spec_lemmas.specs.spec.endpoint.Endpoint.{Endpoint, Core, cookie_echoed}
 use Rattle.dcsctp_spec_lemmas.specs.spec.endpoint.CallTurns.{Transition}
 use Rattle.dcsctp_spec_lemmas.specs.spec.association.Effect.{Effect, draws, sends, holds, connects, ends, begins, gives_up, completes, fails, accepts, performs, renews, resumes, effects_without_packets, Change}
@@ -24,10 +25,12 @@ use Rattle.dcsctp_theorem_sockets.specs.Agreement.{AreUsable}
 use Rattle.dcsctp_theorem_sockets.proofs.Follow.{Followed}
 use Rattle.dcsctp_theorem_sockets.proofs.Moves.{Below}
 use Rattle.dcsctp_theorem_sockets.proofs.SocketsAgree.{Joined, joined}
-use Rattle.dcsctp_theorem_progress.specs.OthersCookies.{IsOthersCookie, EchoesOthersCookie, EchoOthersCookies, AwaitsCookieAck, KnowCookies}
+use Rattle.dcsctp_theorem_progress.specs.OthersCookies.{IsOthersCookie, EchoesOthersCookie, EchoOthersCookies, AwaitsCookieAck, AwaitsWithData, AwaitingDataEchoes, KnowCookies}
 use Rattle.dcsctp_theorem_progress.specs.Rounds.{this_endpoint, other_endpoint}
 use Rattle.dcsctp_theorem_progress.specs.LostInits.{KeepsOptions}
 use Rattle.dcsctp_theorem_progress.specs.Cookies.{HasEchoed}
+use Rattle.dcsctp_theorem_progress.specs.DataEchoes.{EchoesWithData}
+use Rattle.dcsctp_delivery_sockets.specs.sockets.Kinds.{IsSentByCapabilities, FlightsAreAsNegotiated}
 
 -- ---- what is true of both sides over every run of the machine
 
@@ -120,27 +123,55 @@ echo_others law answers options run are runs honest tags =
 
 -- ---- with what else is known of it
 
+-- what both offers have in common, by the options that each still has
+common_is : (e f : Endpoint) (mine theirs : Options) → KeepsOptions mine e → KeepsOptions theirs f
+    → negotiated_capabilities (offer_of mine) (offer_of theirs) ≡ negotiated_capabilities (offer_of e.options) (offer_of f.options)
+common_is e f mine theirs keeps keeps' =
+    ap (λ (o : Options). negotiated_capabilities (offer_of o) (offer_of theirs)) (sym keeps.same)
+    ∙ ap (λ (o : Options). negotiated_capabilities (offer_of e.options) (offer_of o)) (sym keeps'.same)
+
+echoed_core : (e f : Endpoint) (mine theirs : Options) (others : List Transition) (p : Pair) (held : Held) (bytes : List ℕ) → KeepsOptions mine e → KeepsOptions theirs f → e.core ≡ cookie_echoed p held bytes
+    → held ≡ new_held p held.peer held.capabilities → (c : IsOthersCookie mine theirs others p held bytes)
+    → e.core ≡ cookie_echoed c.cookie.addressee (new_held c.cookie.addressee c.cookie.maker (negotiated_capabilities (offer_of e.options) (offer_of f.options))) bytes
+echoed_core e f mine theirs others p held bytes keeps keeps' core unchanged c =
+    let common : Capabilities = negotiated_capabilities (offer_of e.options) (offer_of f.options) in
+    core
+    ∙ ap (λ (x : Held). cookie_echoed p x bytes) unchanged
+    ∙ ap (λ (x : Capabilities). cookie_echoed p (new_held p held.peer x) bytes) (c.capabilities ∙ common_is e f mine theirs keeps keeps')
+    ∙ ap (λ (q : Pair). cookie_echoed p (new_held p q common) bytes) (sym c.maker)
+    ∙ ap (λ (q : Pair). cookie_echoed q (new_held q c.cookie.maker common) bytes) (sym c.addressee)
+
 has_echoed : (e f : Endpoint) (mine theirs : Options) (others : List Transition) (p : Pair) (held : Held) (bytes : List ℕ) → KeepsOptions mine e → KeepsOptions theirs f → AwaitsCookieAck e p held bytes
     → IsOthersCookie mine theirs others p held bytes → (cookie : Cookie) × HasEchoed e f cookie bytes
-has_echoed e f mine theirs others p held bytes keeps keeps' h c =
-    let common : Capabilities = negotiated_capabilities (offer_of e.options) (offer_of f.options) in
-    let agreed : held.capabilities ≡ common =
-    c.capabilities
-    ∙ ap (λ (o : Options). negotiated_capabilities (offer_of o) (offer_of theirs)) (sym keeps.same)
-    ∙ ap (λ (o : Options). negotiated_capabilities (offer_of e.options) (offer_of o)) (sym keeps'.same) in (
+has_echoed e f mine theirs others p held bytes keeps keeps' h c = (
+  c.cookie,
+  record {
+    core = echoed_core e f mine theirs others p held bytes keeps keeps' h.core h.unchanged c;
+    reads = c.reads;
+    fits = c.fits;
+    offer = c.offer ∙ ap offer_of (sym keeps.same);
+    idle = h.idle;
+    owes = h.owes;
+    delay = h.delay;
+    asks = h.asks;
+    errors = h.errors;
+  },
+)
+
+-- With data behind it, which is sent as was negotiated.
+has_echoed_data : (e f : Endpoint) (mine theirs : Options) (others : List Transition) (p : Pair) (held : Held) (bytes : List ℕ) → KeepsOptions mine e → KeepsOptions theirs f → AwaitsWithData e p held bytes
+    → IsSentByCapabilities (negotiated_capabilities (offer_of mine) (offer_of theirs)) e.queues.transfer → IsOthersCookie mine theirs others p held bytes → (cookie : Cookie) × EchoesWithData e f cookie bytes
+has_echoed_data e f mine theirs others p held bytes keeps keeps' h kind c =
+    let is : IsSentByCapabilities (negotiated_capabilities (offer_of e.options) (offer_of f.options)) (Some h.transfer) =
+    subst (λ (t : Option Transfer). IsSentByCapabilities (negotiated_capabilities (offer_of e.options) (offer_of f.options)) t) h.known
+    (subst (λ (x : Capabilities). IsSentByCapabilities x e.queues.transfer) (common_is e f mine theirs keeps keeps') kind) in (
       c.cookie,
       record {
-        core = h.core
-            ∙ ap (λ (x : Held). cookie_echoed p x bytes) h.unchanged
-            ∙ ap (λ (x : Capabilities). cookie_echoed p (new_held p held.peer x) bytes) agreed
-            ∙ ap (λ (q : Pair). cookie_echoed p (new_held p q common) bytes) (sym c.maker)
-            ∙ ap (λ (q : Pair). cookie_echoed q (new_held q c.cookie.maker common) bytes) (sym c.addressee);
+        core = echoed_core e f mine theirs others p held bytes keeps keeps' h.core h.unchanged c;
         reads = c.reads;
         fits = c.fits;
         offer = c.offer ∙ ap offer_of (sym keeps.same);
-        idle = h.idle;
-        owes = h.owes;
-        delay = h.delay;
+        data_flows = record { transfer = h.transfer; known = h.known; interleaves = is.0; abandons = is.1; unpaused = h.unpaused };
         asks = h.asks;
         errors = h.errors;
       },
@@ -152,7 +183,16 @@ awaiting_side : (options : Both Options) (run : List PerformedAct) (side : Side)
 awaiting_side options run side echoes keeps keeps' p held bytes h =
     has_echoed (this_endpoint options side run) (other_endpoint options side run) (of_side side options) (of_other side options) (of_other side (turns_after run)) p held bytes keeps keeps' h (echoes p held bytes h.core)
 
-pub cookies_are_known : Below → AnswerKeepsAgreement → (options : Both Options) (run : List PerformedAct) → AreUsable options → SocketRun options run → KnowCookies options run
-cookies_are_known law answers options run are runs =
+awaiting_data_side : FlightsAreAsNegotiated → (options : Both Options) (run : List PerformedAct) → AreUsable options → SocketRun options run → EchoOthersCookies options run → AwaitingDataEchoes options run
+awaiting_data_side law options run are runs others honest tags side keeps keeps' p held bytes h =
+    has_echoed_data (this_endpoint options side run) (other_endpoint options side run) (of_side side options) (of_other side options) (of_other side (turns_after run)) p held bytes keeps keeps' h
+    (law options run are runs honest tags side) (others honest tags side p held bytes h.core)
+
+pub cookies_are_known : Below → AnswerKeepsAgreement → FlightsAreAsNegotiated → (options : Both Options) (run : List PerformedAct) → AreUsable options → SocketRun options run → KnowCookies options run
+cookies_are_known law answers flights options run are runs =
     let others : EchoOthersCookies options run = echo_others law answers options run are runs in
-    record { others = others; awaiting = λ honest tags side keeps keeps' p held bytes h. awaiting_side options run side (others honest tags side) keeps keeps' p held bytes h }
+    record {
+      others = others;
+      awaiting = λ honest tags side keeps keeps' p held bytes h. awaiting_side options run side (others honest tags side) keeps keeps' p held bytes h;
+      awaiting_data = awaiting_data_side flights options run are runs others;
+    }

@@ -31,10 +31,10 @@ use Rattle.dcsctp_theorem_sockets.proofs.HandshakeReads.{counted_at, delivered, 
 use Rattle.dcsctp_theorem_sockets.proofs.HandshakeTurns.{HandshakeLaws, Good, taken_as}
 use Rattle.dcsctp_theorem_progress.specs.Cookies.{HasEchoed}
 use Rattle.dcsctp_theorem_progress.specs.LostInits.{DueT1}
-use Rattle.dcsctp_theorem_progress.specs.Restarts.{HasOlder, OlderAssociationsGiveWay}
+use Rattle.dcsctp_theorem_progress.specs.Restarts.{HasTied, HasOlder, OlderAssociationsGiveWay}
 use Rattle.dcsctp_theorem_progress.specs.Retries.{RetriesT1}
 use Rattle.dcsctp_theorem_progress.specs.Rounds.{counts_shown, QuietRound}
-use Rattle.dcsctp_theorem_progress.proofs.AckLost.{echoed_beside}
+use Rattle.dcsctp_theorem_progress.proofs.StillAwaiting.{echoed_beside}
 use Rattle.dcsctp_theorem_progress.proofs.Joined.{JoinedBy}
 use Rattle.dcsctp_theorem_progress.proofs.EchoRound.{Acknowledged, Waiting, echo_exchanged}
 use Rattle.dcsctp_theorem_progress.proofs.EchoRuns.{offered, pairs_fit, repeated, repeats}
@@ -111,10 +111,10 @@ differ_by : (n m : ℕ) (same : Bool) → eqb n m ≡ same → n ≢ m → same 
 differ_by n m true is other = absurd (other (grind (arith, nat_tests, is)))
 differ_by n m false is other = refl
 
-differ : (n m : ℕ) → n ≢ m → eqb n m ≡ false
+pub differ : (n m : ℕ) → n ≢ m → eqb n m ≡ false
 differ n m other = differ_by n m (eqb n m) refl other
 
-alike : (n m : ℕ) → n ≡ m → eqb n m ≡ true
+pub alike : (n m : ℕ) → n ≡ m → eqb n m ≡ true
 alike n m same = grind (arith, nat_tests, same)
 
 case_is : (e : Endpoint) (mine : Pair) (held : Held) (cookie : Cookie) → cookie.maker.tag ≢ mine.tag → cookie.addressee.tag ≢ held.peer.tag → cookie.tie ≡ e.tie
@@ -128,11 +128,12 @@ case_is e mine held cookie own peer tie young =
 
 takes_then : (f : Endpoint) (cookie : Cookie) (moment : ℕ) → HasOlder f cookie moment → TakesAnew (with_clock (max f.moment moment) f) cookie
 takes_then f cookie moment h =
-    record { mine = h.mine; held = h.held; core = h.core; case = case_is (with_clock (max f.moment moment) f) h.mine h.held cookie h.own h.peer h.tie h.young; anew = h.anew }
+    let t : HasTied f cookie moment = h.tied in
+    record { mine = t.mine; held = t.held; core = t.core; case = case_is (with_clock (max f.moment moment) f) t.mine t.held cookie h.own t.peer t.tie t.young; anew = h.anew }
 
 -- ---- the round
 
-no_later : (n m : ℕ) → n < m → n ≤ m
+pub no_later : (n m : ℕ) → n < m → n ≤ m
 no_later n m less = omega (arith, less)
 
 older_settles : HandshakeLaws → TimePassesQuietly → (side : Side) (options : Both Options) (settled : Both ℕ) (earlier run : List PerformedAct) (v w : View) (cookie : Cookie) (bytes : List ℕ) → AreUsable options → AreFitting options
@@ -147,7 +148,7 @@ older_settles law time side options settled earlier run v w cookie bytes are fit
     let moved : MovedOf side options quiet.between v w moment = moves_of side options earlier quiet.between v w at keep quiet.time between in
     let at_t1 : moment ≡ next_moment v.endpoint = moment_by side v w (no_later (next_moment v.endpoint) (next_moment w.endpoint) waits) in
     let clock : ClockMoves w moment moved.others =
-    open_moves_by time (nat_le w.endpoint.moment moment) w established older.mine older.held moment moved.others refl older.core
+    open_moves_by time (nat_le w.endpoint.moment moment) w established older.tied.mine older.tied.held moment moved.others refl older.tied.core
     (subst (λ (k : ℕ). k < next_moment w.endpoint) (sym at_t1) waits) moved.others_turns in
     let there : View = view_then w moved.others in
     let same : there.endpoint.options ≡ w.endpoint.options = ap (λ (f : Endpoint). f.options) clock.endpoint in

@@ -27,7 +27,7 @@ use Rattle.dcsctp_theorem_progress.proofs.Chain.{Ground, given_by, Replied, begu
 use Rattle.dcsctp_theorem_progress.proofs.Joined.{Joined}
 
 -- the INIT, handed to the other
-init_handed : (side : Side) (options : Both Options) (v w : View) (p : Pair) (moment : ℕ) (settled settled' : Both ℕ) (earlier run : List PerformedAct)
+pub init_handed : (side : Side) (options : Both Options) (v w : View) (p : Pair) (moment : ℕ) (settled settled' : Both ℕ) (earlier run : List PerformedAct)
     → Ground side options v w p moment → AtOf side options earlier (begun v p moment) w → Settles settled side (length v.shown) (length w.shown)
     → (rest : Exchanges options 4 settled earlier settled' run) → SocketRun options run → Handed side options rest.0 (begun v p moment) w (init_packet v.endpoint.options p)
 init_handed side options v w p moment settled settled' earlier run g at counts rest runs =

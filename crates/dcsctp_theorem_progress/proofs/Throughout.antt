@@ -6,9 +6,9 @@ use Rattle.dcsctp_theorem_sockets.specs.Agreement.{AreUsable}
 use Rattle.dcsctp_theorem_sockets.specs.Handshake.{AreFitting}
 use Rattle.dcsctp_theorem_progress.specs.OthersCookies.{CookiesAreTheOthers}
 use Rattle.dcsctp_theorem_progress.specs.Connecting.{LostRoundsAreMadeGood, FreshSocketsConnect}
-use Rattle.dcsctp_theorem_progress.specs.Heartbeats.{LostAcksConnect}
+use Rattle.dcsctp_theorem_progress.specs.Heartbeats.{LostAcksConnect, LostDataAcksConnect}
 use Rattle.dcsctp_theorem_progress.specs.LossyRounds.{LossyRoundsLeadOn, LossyRoundsConnectSockets}
-use Rattle.dcsctp_theorem_progress.specs.Restarts.{OlderAssociationsGiveWay}
+use Rattle.dcsctp_theorem_progress.specs.Restarts.{OlderAssociationsGiveWay, OlderAssociationsGiveWayToData, OlderAssociationsGiveWayToInits}
 use Rattle.dcsctp_theorem_progress.specs.Throughout.{RoundsConnect, ConnectOverRounds}
 
 -- what is known of rounds
@@ -16,9 +16,12 @@ pub record Rounds : Type 0 where
   pub trying : LostRoundsAreMadeGood
   pub fresh : FreshSocketsConnect
   pub acks : LostAcksConnect
+  pub data_acks : LostDataAcksConnect
   pub lossy : LossyRoundsLeadOn
   pub lossy_rounds : LossyRoundsConnectSockets
   pub older : OlderAssociationsGiveWay
+  pub older_with_data : OlderAssociationsGiveWayToData
+  pub older_from_init : OlderAssociationsGiveWayToInits
   pub cookies : CookiesAreTheOthers
 
 at_end : Rounds → (options : Both Options) (run : List PerformedAct) → AreUsable options → AreFitting options → SocketRun options run → RoundsConnect options run
@@ -27,9 +30,12 @@ at_end law options run are fit runs =
       trying = law.trying options run are fit runs;
       fresh = law.fresh options run are fit runs;
       acks = law.acks options run are fit runs;
+      data_acks = law.data_acks options run are fit runs;
       lossy = law.lossy options run are fit runs;
       lossy_rounds = law.lossy_rounds options run are fit runs;
       older = law.older options run are fit runs;
+      older_with_data = law.older_with_data options run are fit runs;
+      older_from_init = law.older_from_init options run are fit runs;
       cookies = law.cookies options run are runs;
     }
 

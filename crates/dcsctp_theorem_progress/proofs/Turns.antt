@@ -94,7 +94,7 @@ pub record Answers (f : Endpoint) (theirs : Introduction) (turns : List Transiti
   pub only : turns ≡ delivered f 0 (init theirs) (answering (counted_at f) theirs word next)
 
 -- The first INIT of a packet is answered.
-answers_first : (follows : Bool) (e : Endpoint) (theirs : Introduction) (word next : ℕ)
+pub answers_first : (follows : Bool) (e : Endpoint) (theirs : Introduction) (word next : ℕ)
     → init_answered (not (follows && false)) e theirs word next ≡ counted (init_outcome e theirs e.core word next)
 answers_first true e theirs word next = refl
 answers_first false e theirs word next = refl

@@ -20,7 +20,8 @@ use Rattle.dcsctp_spec_runs.specs.Fitting.{Sendable, SendablePacket}
 use Rattle.dcsctp_theorem_sockets.proofs.Deliver.{built, fields_fit, reads_as_sent}
 use Rattle.dcsctp_theorem_sockets.proofs.HandshakeReads.{Wire, counted_at, turned_as}
 use Rattle.dcsctp_theorem_progress.proofs.Carried.{IsAllowed, AreCarried}
-use Rattle.dcsctp_theorem_progress.proofs.Flows.{Flows, AreCarriedFor, TellsCarried, tells_both}
+use Rattle.dcsctp_theorem_progress.proofs.Flows.{HasPeer, is_open, peer_stays, Flows, AreCarriedFor, TellsCarried, tells_both}
+use Rattle.dcsctp_theorem_progress.proofs.Constant.{KeepsTrying, same_trying, trying_then}
 use Rattle.dcsctp_theorem_progress.proofs.Flushes.{Stays}
 use Rattle.dcsctp_theorem_progress.proofs.Opened.{carried_stays, end_stays}
 
@@ -33,6 +34,7 @@ pub record StayAlong (held : Held) (e : Endpoint) (turns : List Transition) : Ty
   pub asked : (after_all e turns).shutdown_asked ≡ e.shutdown_asked
   pub flows : Flows held (after_all e turns)
   pub tells : TellsCarried held (events_of turns)
+  pub trying : KeepsTrying e (after_all e turns)
 
 pub stays_then : (held : Held) (e : Endpoint) (t : Transition) (turns : List Transition) → Stays held e t.outcome → StayAlong held t.outcome.after turns → StayAlong held e (t ∷ turns)
 stays_then held e t turns first rest =
@@ -42,24 +44,29 @@ stays_then held e t turns first rest =
       asked = rest.asked ∙ first.asked;
       flows = rest.flows;
       tells = tells_both held t.outcome.events (events_of turns) first.tells rest.tells;
+      trying = trying_then e t.outcome.after (after_all t.outcome.after turns) first.trying rest.trying;
     }
 
 pub ended : (held : Held) (e : Endpoint) (turns : List Transition) → Flows held e → Turns e (packet_ends ∷ []) turns → StayAlong held e turns
 ended held e [] f turns = absurd turns
 ended held e (t ∷ []) f turns =
     let last : Stays held e t.outcome = end_stays held e f t.outcome turns.0.comes in
-    stays_then held e t [] last (record { core = refl; options = refl; asked = refl; flows = last.flows; tells = record { told = λ n. refl; sent = tt } })
+    stays_then held e t [] last (record { core = refl; options = refl; asked = refl; flows = last.flows; tells = record { told = λ n. refl; sent = tt }; trying = same_trying _ _ refl refl refl })
 ended held e (t ∷ u ∷ ts) f turns = absurd turns.1
 
-pub walked : (held : Held) (my : Pair) (e : Endpoint) (tag : ℕ) (contents : List Content) (turns : List Transition) → e.core ≡ open_in established my held → Flows held e → AreCarriedFor held contents
+pub walked_on : (held : Held) (my : Pair) (e : Endpoint) (tag : ℕ) (contents : List Content) (turns : List Transition) → HasPeer my held e.core → Flows held e → AreCarriedFor held contents
     → ChunkTurns e tag contents (packet_ends ∷ []) turns → StayAlong held e turns
-walked held my e tag [] turns opened f each h = ended held e turns f h
-walked held my e tag (content ∷ contents) [] opened f each h = absurd h
-walked held my e tag (content ∷ contents) (t ∷ ts) opened f each h =
+walked_on held my e tag [] turns opened f each h = ended held e turns f h
+walked_on held my e tag (content ∷ contents) [] opened f each h = absurd h
+walked_on held my e tag (content ∷ contents) (t ∷ ts) opened f each h =
     let first : Stays held e t.outcome = carried_stays held my e tag f content t.outcome opened each.0 h.0.comes in
     let rest : ChunkTurns t.outcome.after tag contents (packet_ends ∷ []) ts =
     subst (λ (next : Following). AfterChunk next (ChunkTurns t.outcome.after tag contents (packet_ends ∷ []) ts) (Turns t.outcome.after (packet_ends ∷ []) ts) (ts ≡ [])) first.following h.1 in
-    stays_then held e t ts first (walked held my t.outcome.after tag contents ts (first.core ∙ opened) first.flows each.1 rest)
+    stays_then held e t ts first (walked_on held my t.outcome.after tag contents ts (peer_stays my held e.core t.outcome.after.core first.core opened) first.flows each.1 rest)
+
+pub walked : (held : Held) (my : Pair) (e : Endpoint) (tag : ℕ) (contents : List Content) (turns : List Transition) → e.core ≡ open_in established my held → Flows held e → AreCarriedFor held contents
+    → ChunkTurns e tag contents (packet_ends ∷ []) turns → StayAlong held e turns
+walked held my e tag contents turns opened f each h = walked_on held my e tag contents turns (is_open opened) f each h
 
 -- ---- chunks that any reader takes
 
@@ -94,8 +101,8 @@ ordinary_plain m n (unworked (shutdown_complete_chunk c)) contents may h = absur
 ordinary_plain m n (unworked (re_config_chunk c)) contents may h = absurd may
 ordinary_plain m n (unworked (unknown_chunk t g v)) contents may h = absurd may
 ordinary_plain m n (unknown t g v) contents may h = absurd may
-ordinary_plain m n (heartbeat c) contents may h = absurd may
-ordinary_plain m n (heartbeat_ack c) contents may h = absurd may
+ordinary_plain m n (heartbeat c) contents may h = ordinary_then (heartbeat c) contents tt refl h
+ordinary_plain m n (heartbeat_ack c) contents may h = ordinary_then (heartbeat_ack c) contents tt refl h
 
 pub are_ordinary : (m n : Bool) (contents : List Content) → AreCarried m n contents → AreOrdinary contents
 are_ordinary m n [] each = record { minima = tt; no_echo = tt; no_abort = refl; no_complete = refl; no_ack = refl }

@@ -1,6 +1,6 @@
 -- Rounds in which some packets are lost and others come: each leads a handshake on, or leaves it as far as it was (RFC 9260,
 -- section 5.1).
-use Rattle.std.specs.Prelude.{◌≡◌, ◌⊎◌, ℕ, zero, suc, ◌-◌, Bool, true, false, List, [], ◌∷◌, ◌++◌, length}
+use Rattle.std.specs.Prelude.{◌≡◌, ◌⊎◌, ◌<◌, ℕ, zero, suc, ◌-◌, max, Bool, true, false, List, [], ◌∷◌, ◌++◌, length}
 use Rattle.dcsctp_spec_lemmas.specs.types.declared.association.Pair.{Pair}
 use Rattle.dcsctp_spec_lemmas.specs.types.declared.options.Options.{Options}
 use Rattle.dcsctp_spec_lemmas.specs.types.declared.schedule.Side.{Side}
@@ -8,16 +8,19 @@ use Rattle.dcsctp_spec_lemmas.specs.types.declared.schedule.Side.TheVariants as 
 use Rattle.dcsctp_spec_lemmas.specs.types.Schedule.{delivery_step, ActContent, step_act}
 use Rattle.dcsctp_spec_lemmas.specs.spec.Cookie.{Cookie}
 use Rattle.dcsctp_spec_lemmas.specs.spec.endpoint.Endpoint.{Endpoint}
+use Rattle.dcsctp_spec_lemmas.specs.spec.endpoint.Turn.{with_clock}
 use Rattle.dcsctp_spec_lemmas.specs.spec.endpoint.HeartbeatOutcomes.{is_exhausted}
 use Rattle.dcsctp_spec_lemmas.specs.spec.endpoint.TimeTurns.{next_moment}
 use Rattle.dcsctp_spec_runs.specs.Sockets.{PerformedAct, Both, of_side, of_other, turns_after, SocketRun}
 use Rattle.dcsctp_theorem_sockets.specs.Agreement.{AreUsable}
 use Rattle.dcsctp_theorem_sockets.specs.Handshake.{AreFitting}
 use Rattle.dcsctp_theorem_progress.specs.Rounds.{this_endpoint, other_endpoint, counts_shown, ActsFollow, AdvancesBothClocks, QuietRound}
-use Rattle.dcsctp_theorem_progress.specs.LostInits.{NothingWaits, KeepsOptions}
+use Rattle.dcsctp_theorem_progress.specs.LostInits.{KeepsOptions}
 use Rattle.dcsctp_theorem_progress.specs.Retries.{LeavesRestarts, RetriesT1, RetriesInit}
 use Rattle.dcsctp_theorem_progress.specs.Cookies.{HasEchoed, KnowsCookie, AnswersEcho}
 use Rattle.dcsctp_theorem_progress.specs.Connecting.{RestsWithoutTag, HaveConnected}
+use Rattle.dcsctp_theorem_progress.specs.Heartbeats.{SurvivesRounds}
+use Rattle.dcsctp_theorem_progress.specs.DataEchoes.{EchoesWithData, HasCookie, TakesCookie}
 
 -- ---- a lossy round
 
@@ -56,14 +59,42 @@ LossyRounds options (suc more) earlier run =
 
 -- ---- how far a handshake is
 
--- The one awaits an INIT ACK, and the other is closed; or it awaits a COOKIE ACK. That many restarts of T1 are left.
-pub data IsTrying (more : ℕ) (e f : Endpoint) : Type 0 where
-  still_inits : (p : Pair) → NothingWaits e f → RetriesInit e p more → RestsWithoutTag f → is_exhausted e.options.max_retransmissions e.error_count ≡ false → IsTrying more e f
-  still_echoes : (cookie : Cookie) (bytes : List ℕ) → HasEchoed e f cookie bytes → RetriesT1 e more → KnowsCookie e f cookie → IsTrying more e f
+-- The other never got the cookie and would take it now, or is Established by it. There too messages may be queued.
+pub data TakesOrHas (e f : Endpoint) (cookie : Cookie) : Type 0 where
+  takes_it : TakesCookie f cookie → TakesOrHas e f cookie
+  has_it : HasCookie e f cookie → TakesOrHas e f cookie
 
--- If it awaits a COOKIE ACK, T1 expires before any timer of the other, and while the other takes the cookie.
-abbrev pub ComesInTime : Endpoint → Endpoint → Type 0
-ComesInTime e f = (cookie : Cookie) (bytes : List ℕ) → HasEchoed e f cookie bytes → KnowsCookie e f cookie → AnswersEcho e f cookie (next_moment e)
+-- It acknowledges a COOKIE ECHO that comes at this moment, or later by its own clock: it takes the cookie then; or it has it already,
+-- and none of its own timers is due by then.
+pub data AnswersWithData (e f : Endpoint) (cookie : Cookie) (moment : ℕ) : Type 0 where
+  takes_then : TakesCookie (with_clock (max f.moment moment) f) cookie → AnswersWithData e f cookie moment
+  has_before : HasCookie e f cookie → moment < next_moment f → AnswersWithData e f cookie moment
+
+-- The one awaits an INIT ACK, and the other is closed; or it awaits a COOKIE ACK, with nothing queued at either side, or with data.
+-- That many restarts of T1 are left.
+pub data IsTrying (more : ℕ) (e f : Endpoint) : Type 0 where
+  still_inits : (p : Pair) → RetriesInit e p more → RestsWithoutTag f → is_exhausted e.options.max_retransmissions e.error_count ≡ false → IsTrying more e f
+  still_echoes : (cookie : Cookie) (bytes : List ℕ) → HasEchoed e f cookie bytes → RetriesT1 e more → KnowsCookie e f cookie → IsTrying more e f
+  still_sends : (cookie : Cookie) (bytes : List ℕ) → EchoesWithData e f cookie bytes → RetriesT1 e more → TakesOrHas e f cookie → IsTrying more e f
+
+-- If it awaits a COOKIE ACK, T1 expires before any timer of the other, and while the other takes the cookie: with nothing queued,
+abbrev pub ComesInTimeIdle : Endpoint → Endpoint → Type 0
+ComesInTimeIdle e f = (cookie : Cookie) (bytes : List ℕ) → HasEchoed e f cookie bytes → KnowsCookie e f cookie → AnswersEcho e f cookie (next_moment e)
+
+-- or with data.
+pub record ComesInTime (e f : Endpoint) : Type 0 where
+  pub idle : ComesInTimeIdle e f
+  pub with_data : (cookie : Cookie) (bytes : List ℕ) → EchoesWithData e f cookie bytes → TakesOrHas e f cookie → AnswersWithData e f cookie (next_moment e)
+
+-- T1 comes in time so; or the other has the cookie, and survives its own timers in the round. Then any of these may come before T1.
+pub data BearsTimers (e f : Endpoint) (cookie : Cookie) : Type 0 where
+  t1_first : AnswersWithData e f cookie (next_moment e) → BearsTimers e f cookie
+  any_first : HasCookie e f cookie → SurvivesRounds f 1 → BearsTimers e f cookie
+
+-- That is asked of both before a lossy round.
+pub record BearRound (e f : Endpoint) : Type 0 where
+  pub idle : ComesInTimeIdle e f
+  pub with_data : (cookie : Cookie) (bytes : List ℕ) → EchoesWithData e f cookie bytes → TakesOrHas e f cookie → BearsTimers e f cookie
 
 -- ---- a round
 
@@ -80,18 +111,18 @@ LossyRoundLeadsOn options run =
     let e = this_endpoint options side earlier in
     let f = other_endpoint options side earlier in
     KeepsOptions (of_side side options) e → KeepsOptions (of_other side options) f → LeavesRestarts (of_side side options).max_init_retransmits 0 (suc more)
-    → IsTrying (suc more) e f → ComesInTime e f → LossyRound options (counts_shown options (turns_after earlier)) earlier settled run → LeadsOn options side more earlier run
+    → IsTrying (suc more) e f → BearRound e f → LossyRound options (counts_shown options (turns_after earlier)) earlier settled run → LeadsOn options side more earlier run
 
 abbrev pub LossyRoundsLeadOn : Type 0
 LossyRoundsLeadOn = (options : Both Options) (run : List PerformedAct) → AreUsable options → AreFitting options → SocketRun options run → LossyRoundLeadsOn options run
 
 -- ---- any number of rounds
 
--- T1 comes in time before each of the rounds, and after them.
-abbrev pub ComeInTime : (options : Both Options) (side : Side) (count : ℕ) (earlier run : List PerformedAct) → LossyRounds options count earlier run → Type 0
-ComeInTime options side zero earlier run rounds = ComesInTime (this_endpoint options side earlier) (other_endpoint options side earlier)
-ComeInTime options side (suc more) earlier run rounds =
-    ComesInTime (this_endpoint options side earlier) (other_endpoint options side earlier) × ComeInTime options side more rounds.0 run rounds.3
+-- Both bear each of the rounds, and after these T1 comes in time.
+abbrev pub BearRounds : (options : Both Options) (side : Side) (count : ℕ) (earlier run : List PerformedAct) → LossyRounds options count earlier run → Type 0
+BearRounds options side zero earlier run rounds = ComesInTime (this_endpoint options side earlier) (other_endpoint options side earlier)
+BearRounds options side (suc more) earlier run rounds =
+    BearRound (this_endpoint options side earlier) (other_endpoint options side earlier) × BearRounds options side more rounds.0 run rounds.3
 
 -- One of the rounds connects both.
 abbrev pub OneConnects : (options : Both Options) (count : ℕ) (earlier run : List PerformedAct) → LossyRounds options count earlier run → Type 0
@@ -106,7 +137,7 @@ LossyRoundsConnect options run =
     let e = this_endpoint options side earlier in
     let f = other_endpoint options side earlier in
     KeepsOptions (of_side side options) e → KeepsOptions (of_other side options) f → LeavesRestarts (of_side side options).max_init_retransmits 0 (suc count)
-    → IsTrying (suc count) e f → (rounds : LossyRounds options count earlier between) → ComeInTime options side count earlier between rounds
+    → IsTrying (suc count) e f → (rounds : LossyRounds options count earlier between) → BearRounds options side count earlier between rounds
     → QuietRound options (counts_shown options (turns_after between)) between settled run
     → OneConnects options count earlier between rounds ⊎ HaveConnected options (turns_after between) (turns_after run)
 

@@ -6,8 +6,8 @@ use Rattle.dcsctp_theorem_sockets.specs.Agreement.{AreUsable}
 use Rattle.dcsctp_theorem_sockets.specs.Handshake.{AreFitting}
 use Rattle.dcsctp_theorem_progress.specs.Connecting.{TryingConnect, CallersConnect}
 use Rattle.dcsctp_theorem_progress.specs.OthersCookies.{KnowCookies}
-use Rattle.dcsctp_theorem_progress.specs.Heartbeats.{AcksConnect}
-use Rattle.dcsctp_theorem_progress.specs.Restarts.{OlderGivesWay}
+use Rattle.dcsctp_theorem_progress.specs.Heartbeats.{AcksConnect, DataAcksConnect}
+use Rattle.dcsctp_theorem_progress.specs.Restarts.{OlderGivesWay, OlderGivesWayToData, OlderGivesWayToInit}
 use Rattle.dcsctp_theorem_progress.specs.LossyRounds.{LossyRoundLeadsOn, LossyRoundsConnect}
 
 -- At its end.
@@ -18,12 +18,18 @@ pub record RoundsConnect (options : Both Options) (run : List PerformedAct) : Ty
   pub fresh : CallersConnect options run
   -- Heartbeats may be lost with a COOKIE ACK.
   pub acks : AcksConnect options run
+  -- So may data of both.
+  pub data_acks : DataAcksConnect options run
   -- A round of which some packets are lost leads a handshake on, or leaves it as far as it was.
   pub lossy : LossyRoundLeadsOn options run
   -- After any number of these a quiet one connects, if none of them has.
   pub lossy_rounds : LossyRoundsConnect options run
   -- An older association of the other gives way.
   pub older : OlderGivesWay options run
+  -- So it does with data at both.
+  pub older_with_data : OlderGivesWayToData options run
+  -- So it does where the handshake begins again with the INIT, and that is lost for a while.
+  pub older_from_init : OlderGivesWayToInit options run
   -- The cookie that is echoed is the other's.
   pub cookies : KnowCookies options run
 

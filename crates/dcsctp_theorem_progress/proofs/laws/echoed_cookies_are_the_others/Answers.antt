@@ -12,4 +12,4 @@ returns c =
       offers = c.offer_reads_back.ensures.announced;
       built = c.built_packet_reads_as_itself.ensures;
     } in
-    cookies_are_known law c.answer_keeps_agreement.ensures
+    cookies_are_known law c.answer_keeps_agreement.ensures c.flights_are_as_negotiated.ensures
