@@ -5,7 +5,7 @@ use Rattle.dcsctp_spec_lemmas.specs.types.Settings.{packet_size_limit}
 use Rattle.dcsctp_spec_lemmas.specs.types.declared.association.Held.{Held}
 use Rattle.dcsctp_spec_lemmas.specs.types.declared.association.Pair.{Pair}
 use Rattle.dcsctp_spec_lemmas.specs.types.declared.options.Options.{Options}
-use Rattle.dcsctp_spec_lemmas.specs.wire.Content.{sack_chunk}
+use Rattle.dcsctp_spec_lemmas.specs.wire.Content.{SackContent, sack_chunk}
 use Rattle.dcsctp_spec_lemmas.specs.spec.Packet.{Content, Plain, plain, unworked, Emission}
 use Rattle.dcsctp_spec_lemmas.specs.spec.association.Choices.{plain_contents}
 use Rattle.dcsctp_spec_lemmas.specs.spec.endpoint.DataOutcomes.{AnswersTo, FlushTurn, flush_to_peer}
@@ -124,15 +124,16 @@ asks_then e now t left place asks options same sends =
 among_first : (packet : Emission) (packets others : List Emission) → packets ≡ packet ∷ others → IsAmongFirst packet packets
 among_first packet packets others is = subst (IsAmongFirst packet) (sym is) (is_first others)
 
-among_second : (one packet : Emission) (packets others : List Emission) → packets ≡ one ∷ (packet ∷ others) → IsAmongFirst packet packets
-among_second one packet packets others is = subst (IsAmongFirst packet) (sym is) (is_second one others)
+among_second : (one packet : Emission) (sack : SackContent) (packets others : List Emission) → one.packet.contents ≡ plain (unworked (sack_chunk sack)) ∷ [] → packets ≡ one ∷ (packet ∷ others)
+    → IsAmongFirst packet packets
+among_second one packet sack packets others alone is = subst (IsAmongFirst packet) (sym is) (is_second one sack alone others)
 
 -- A flush of at least one more packet, once a SACK went alone before these.
-second_behind : (tsn : ℕ) (old : OutstandingState) (before : Outcome) (first : Emission) (ask : Ask) (n count : ℕ) (e : Endpoint) (draft : Emission) (answers : List Answer) (held : Held) (t : Transfer) (place errors : ℕ)
-    → ask ≡ later_ask → n ≡ suc count → draft ≡ draft_to held → tsn ≡ tsn_at t.retransmission.outstanding place → e.queues.transfer ≡ Some t → AsksAlong later_ask e t place → AreFlushAnswers ask n e draft answers
+second_behind : (tsn : ℕ) (old : OutstandingState) (before : Outcome) (first : Emission) (sack : SackContent) (ask : Ask) (n count : ℕ) (e : Endpoint) (draft : Emission) (answers : List Answer) (held : Held) (t : Transfer) (place errors : ℕ)
+    → first.packet.contents ≡ plain (unworked (sack_chunk sack)) ∷ [] → ask ≡ later_ask → n ≡ suc count → draft ≡ draft_to held → tsn ≡ tsn_at t.retransmission.outstanding place → e.queues.transfer ≡ Some t → AsksAlong later_ask e t place → AreFlushAnswers ask n e draft answers
     → before.after ≡ (flush_of e draft answers).after → packets_of_events before.events ≡ first ∷ packets_of_events (flush_of e draft answers).events → StillHas old errors before.after → SendsBehind tsn old before
-second_behind tsn old before first _ _ count _ _ _ held t place errors later some is place_is has asks (at_limit ask e draft) after events still = absurd (omega (arith, some))
-second_behind tsn old before first _ _ count _ _ _ held t place errors later some is place_is has asks (at_empty ask more e draft answer given empty) after events still =
+second_behind tsn old before first sack _ _ count _ _ _ held t place errors front later some is place_is has asks (at_limit ask e draft) after events still = absurd (omega (arith, some))
+second_behind tsn old before first sack _ _ count _ _ _ held t place errors front later some is place_is has asks (at_empty ask more e draft answer given empty) after events still =
     absurd (no_chunk (answer_along ask e held t place answer e.queues.transfer has (subst (λ (a : Ask). AsksAlong a e t place) (sym later) asks) answered.by_transfer))
   where
     answered : IsFlushAnswer ask e (draft_to held) answer
@@ -145,8 +146,8 @@ second_behind tsn old before first _ _ count _ _ _ held t place errors later som
     no_chunk (with_data sacks few along) =
         let some_chunk : HasChunk (answer_contents answer) = along_some (tsn_at t.retransmission.outstanding place) sacks answer few along in
         let both : [] ≡ some_chunk.chunk ∷ some_chunk.more = sym none_there ∙ some_chunk.is in absurd (cc)
-    no_chunk (sack_alone sack first_is none_sent) = let both : later_ask ≡ first_ask = sym later ∙ first_is in absurd (cc)
-second_behind tsn old before first _ _ count _ _ _ held t place errors later some is place_is has asks (after_packet ask more e draft answer answers given sends rest) after events still =
+    no_chunk (sack_alone other first_is none_sent) = let both : later_ask ≡ first_ask = sym later ∙ first_is in absurd (cc)
+second_behind tsn old before first sack _ _ count _ _ _ held t place errors front later some is place_is has asks (after_packet ask more e draft answer answers given sends rest) after events still =
     by_answer (answer_along ask e held t place answer e.queues.transfer has (subst (λ (a : Ask). AsksAlong a e t place) (sym later) asks) answered.by_transfer)
   where
     answered : IsFlushAnswer ask e (draft_to held) answer
@@ -156,7 +157,7 @@ second_behind tsn old before first _ _ count _ _ _ held t place errors later som
     behind = flush_of (asked_outcome e draft answer).after (next_draft e.core draft) answers
 
     by_answer : GivesAlong ask (tsn_at t.retransmission.outstanding place) t answer → SendsBehind tsn old before
-    by_answer (sack_alone sack first_is none_sent) = let both : later_ask ≡ first_ask = sym later ∙ first_is in absurd (cc)
+    by_answer (sack_alone other first_is none_sent) = let both : later_ask ≡ first_ask = sym later ∙ first_is in absurd (cc)
     by_answer (with_data sacks few along) =
         let some_chunk : HasChunk (answer_contents answer) = along_some (tsn_at t.retransmission.outstanding place) sacks answer few along in
         let out : OutThen (answer_contents answer) behind.events (packets_of_events ((asked_outcome e (draft_to held) answer).events ++ behind.events)) = out_asked e held answer behind.events some_chunk in
@@ -169,7 +170,7 @@ second_behind tsn old before first _ _ count _ _ _ held t place errors later som
         subst (StillHas along.left.retransmission.outstanding answer.after.error_count) (sym after)
         (flush_stays _ more (asked_outcome e draft answer).after (next_draft e.core draft) answers along.left.retransmission.outstanding answer.after.error_count there rest) in
         subst (λ (n : ℕ). SendsBehind n old before) (sym place_is)
-        (behind_by (tsn_at t.retransmission.outstanding place) old answer before errors answer.after.error_count sacks out.first few along (among_second first out.first (packets_of_events before.events) (packets_of_events behind.events) packets) out.is still since)
+        (behind_by (tsn_at t.retransmission.outstanding place) old answer before errors answer.after.error_count sacks out.first few along (among_second first out.first sack (packets_of_events before.events) (packets_of_events behind.events) front packets) out.is still since)
 
 -- A flush of at least two packets.
 flush_behind : (ask : Ask) (n count : ℕ) (e : Endpoint) (draft : Emission) (answers : List Answer) (phase : OpenPhase) (my : Pair) (held : Held) (t : Transfer) (place : ℕ) → ask ≡ first_ask → n ≡ suc (suc count)
@@ -190,7 +191,7 @@ flush_behind _ _ count _ _ _ phase my held t place first some is core has asks (
     no_chunk (with_data sacks few along) =
         let some_chunk : HasChunk (answer_contents answer) = along_some (tsn_at t.retransmission.outstanding place) sacks answer few along in
         let both : [] ≡ some_chunk.chunk ∷ some_chunk.more = sym none_there ∙ some_chunk.is in absurd (cc)
-    no_chunk (sack_alone sack first_is none_sent) = let both : [] ≡ plain sack ∷ [] = sym none_there ∙ none_sent.contents in absurd (cc)
+    no_chunk (sack_alone sack first_is none_sent) = let both : [] ≡ plain (unworked (sack_chunk sack)) ∷ [] = sym none_there ∙ none_sent.contents in absurd (cc)
 flush_behind _ _ count _ _ _ phase my held t place first some is core has asks (after_packet ask more e draft answer answers given sends rest) still =
     by_answer (answer_along ask e held t place answer e.queues.transfer has (subst (λ (a : Ask). AsksAlong a e t place) (sym first) asks) answered.by_transfer)
   where
@@ -217,7 +218,7 @@ flush_behind _ _ count _ _ _ phase my held t place first some is core has asks (
         behind_by (tsn_at t.retransmission.outstanding place) t.retransmission.outstanding answer whole e.error_count answer.after.error_count sacks out.first few along
         (among_first out.first (packets_of_events whole.events) (packets_of_events behind.events) packets) out.is still since
     by_answer (sack_alone sack first_is none_sent) =
-        let some_chunk : HasChunk (answer_contents answer) = record { chunk = plain sack; more = []; is = none_sent.contents } in
+        let some_chunk : HasChunk (answer_contents answer) = record { chunk = plain (unworked (sack_chunk sack)); more = []; is = none_sent.contents } in
         let out : OutThen (answer_contents answer) behind.events (packets_of_events ((asked_outcome e (draft_to held) answer).events ++ behind.events)) = out_asked e held answer behind.events some_chunk in
         let packets : packets_of_events whole.events ≡ out.first ∷ packets_of_events behind.events =
         ap (λ (d : Emission). packets_of_events ((asked_outcome e d answer).events ++ behind.events)) is ∙ out.are in
@@ -225,8 +226,8 @@ flush_behind _ _ count _ _ _ phase my held t place first some is core has asks (
         let next : next_draft e.core draft ≡ draft_to held = ap (λ (c : Core). next_draft c draft) core in
         let there : (asked_outcome e draft answer).after.queues.transfer ≡ Some none_sent.left =
         subst (λ (d : Emission). (asked_outcome e d answer).after.queues.transfer ≡ Some none_sent.left) (sym is) (asked_has e held answer none_sent.left none_sent.has) in
-        second_behind (tsn_at t.retransmission.outstanding place) t.retransmission.outstanding whole out.first later_ask more count (asked_outcome e draft answer).after (next_draft e.core draft) answers held none_sent.left place
-        e.error_count refl (let size = some in omega (arith, size)) next (ap (λ (o : OutstandingState). tsn_at o place) (sym none_sent.outstanding)) there
+        second_behind (tsn_at t.retransmission.outstanding place) t.retransmission.outstanding whole out.first sack later_ask more count (asked_outcome e draft answer).after (next_draft e.core draft) answers held none_sent.left place
+        e.error_count (out.is ∙ none_sent.contents) refl (let size = some in omega (arith, size)) next (ap (λ (o : OutstandingState). tsn_at o place) (sym none_sent.outstanding)) there
         (asks_then e (asked_outcome e draft answer).after t none_sent.left place asks kept.options none_sent.outstanding none_sent.sends) rest refl packets still
 
 -- ---- the turn

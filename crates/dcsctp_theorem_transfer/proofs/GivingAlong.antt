@@ -2,7 +2,7 @@
 use Rattle.std.proofs.Common.{◌≡◌, ◌<◌, ◌-◌, ◌⊎◌, ℕ, Bool, true, false, Option, None, Some, List, [], ◌∷◌, inl, inr, refl, ap, subst, arith}
 use Rattle.dcsctp_spec_lemmas.specs.types.Settings.{packet_size_limit}
 use Rattle.dcsctp_spec_lemmas.specs.types.declared.association.Held.{Held}
-use Rattle.dcsctp_spec_lemmas.specs.wire.Content.{sack_chunk}
+use Rattle.dcsctp_spec_lemmas.specs.wire.Content.{SackContent, sack_chunk}
 use Rattle.dcsctp_spec_lemmas.specs.spec.Packet.{Plain, unworked}
 use Rattle.dcsctp_spec_lemmas.specs.spec.endpoint.Endpoint.{Endpoint}
 use Rattle.dcsctp_spec_lemmas.specs.spec.endpoint.FlushOutcomes.{Ask, first_ask, later_ask, Answer, draft_to, room_of_draft, wants_sack, Gives, GivesUnlessIdle, IsAnswerOfQueues}
@@ -16,13 +16,13 @@ use Rattle.dcsctp_theorem_transfer.proofs.ResendingFlush.{not_idle, empty_room}
 -- The data goes behind at most a SACK, or in the first packet a SACK goes alone.
 pub data GivesAlong (ask : Ask) (tsn : ℕ) (t : Transfer) (answer : Answer) : Type 0 where
   with_data : (sacks : List Plain) → AreSacks sacks → SentAlong tsn sacks answer → GivesAlong ask tsn t answer
-  sack_alone : (sack : Plain) → ask ≡ first_ask → SentNone t (sack ∷ []) answer → GivesAlong ask tsn t answer
+  sack_alone : (sack : SackContent) → ask ≡ first_ask → SentNone t (unworked (sack_chunk sack) ∷ []) answer → GivesAlong ask tsn t answer
 
 -- A packet without a SACK has all room.
 alone_first : (tsn : ℕ) (e : Endpoint) (held : Held) (t : Transfer) (answer : Answer) (sacks : List Plain) → AreSacks sacks → SentNone t sacks answer → room_behind e held sacks < packet_size_limit e.options - 12
     → GivesAlong first_ask tsn t answer
 alone_first tsn e held t answer _ no_sack none_sent less = absurd (let all = empty_room e held in omega (arith, all, less))
-alone_first tsn e held t answer _ (one_sack sack) none_sent less = sack_alone (unworked (sack_chunk sack)) refl none_sent
+alone_first tsn e held t answer _ (one_sack sack) none_sent less = sack_alone sack refl none_sent
 
 -- No SACK goes into a later one.
 alone_behind : (ask : Ask) (tsn : ℕ) (e : Endpoint) (held : Held) (t : Transfer) (answer : Answer) → (gave : Gives ask e (draft_to held) t answer) → SentNone t gave.sacks answer

@@ -40,3 +40,13 @@ mod LowestAnswered
 mod RecoveringBehind
 mod Tracking
 mod GivingAlong
+mod ExpiringBeats
+mod Expiring
+mod ExpiringFlushes
+mod ExpiringPackets
+mod ExpiringLaws
+mod Passing
+mod TickingTimers
+mod Ticking
+mod DelayOver
+mod InOrder

@@ -34,7 +34,7 @@ use Rattle.dcsctp_theorem_transfer.proofs.Unmoved.{SameReceived, StaysReceiver, 
 
 -- ---- the receiver, after a SACK
 
-still_awaits : (kind : Bool) (e after : Endpoint) (t : Transfer) (awaits : AwaitsData e t kind) → (stays : StaysReceiver t e.options awaits.held.capabilities after) → AwaitsData after stays.left kind
+pub still_awaits : (kind : Bool) (e after : Endpoint) (t : Transfer) (awaits : AwaitsData e t kind) → (stays : StaysReceiver t e.options awaits.held.capabilities after) → AwaitsData after stays.left kind
 still_awaits kind e after t awaits stays =
     record {
       my = stays.my;

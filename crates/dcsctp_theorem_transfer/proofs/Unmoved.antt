@@ -41,10 +41,10 @@ pub record SameReceived (old new : Transfer) : Type 0 where
   pub follows : new.tracker.follows_rfc ≡ old.tracker.follows_rfc
   pub reassembly : new.reassembly ≡ old.reassembly
 
-same_itself : (t : Transfer) → SameReceived t t
+pub same_itself : (t : Transfer) → SameReceived t t
 same_itself t = record { cumulative = refl; ranges = refl; follows = refl; reassembly = refl }
 
-same_then : (a b c : Transfer) → SameReceived a b → SameReceived b c → SameReceived a c
+pub same_then : (a b c : Transfer) → SameReceived a b → SameReceived b c → SameReceived a c
 same_then a b c one other =
     record {
       cumulative = other.cumulative ∙ one.cumulative;
@@ -132,7 +132,7 @@ answer_receives ask e draft answer base options kinds h is =
       same = layer.same;
     }
 
-flush_receives : (ask : Ask) (count : ℕ) (e : Endpoint) (draft : Emission) (answers : List Answer) (base : Transfer) (options : Options) (kinds : Capabilities) → StaysReceiver base options kinds e
+pub flush_receives : (ask : Ask) (count : ℕ) (e : Endpoint) (draft : Emission) (answers : List Answer) (base : Transfer) (options : Options) (kinds : Capabilities) → StaysReceiver base options kinds e
     → AreFlushAnswers ask count e draft answers → StaysReceiver base options kinds (flush_of e draft answers).after
 flush_receives _ _ _ _ _ base options kinds h (at_limit ask e draft) = h
 flush_receives _ _ _ _ _ base options kinds h (at_empty ask more e draft answer is empty) =

@@ -1,7 +1,10 @@
 -- What is known of the transfer layer of an association, whatever is lost.
 use Rattle.dcsctp_theorem_transfer.specs.Deadlines.{RunningTimersCount}
+use Rattle.dcsctp_theorem_transfer.specs.DelayOver.{CallSendsDelayedSack}
 use Rattle.dcsctp_theorem_transfer.specs.Delaying.{SocketsAcknowledge}
+use Rattle.dcsctp_theorem_transfer.specs.Expiring.{CallsRecover}
 use Rattle.dcsctp_theorem_transfer.specs.Hearing.{SenderHears}
+use Rattle.dcsctp_theorem_transfer.specs.InOrder.{CallComesInOrder, SuchPacketsPass}
 use Rattle.dcsctp_theorem_transfer.specs.Leaving.{DataLeaves}
 use Rattle.dcsctp_theorem_transfer.specs.Owing.{SocketsOweInTime}
 use Rattle.dcsctp_theorem_transfer.specs.Packing.{SocketsFitPackets}
@@ -9,6 +12,7 @@ use Rattle.dcsctp_theorem_transfer.specs.Recovering.{LostDataComesBehind, LostDa
 use Rattle.dcsctp_theorem_transfer.specs.Resending.{LostDataIsSentAgain}
 use Rattle.dcsctp_theorem_transfer.specs.Retransmitting.{SocketsRunT3}
 use Rattle.dcsctp_theorem_transfer.specs.Taking.{DataIsTaken}
+use Rattle.dcsctp_theorem_transfer.specs.Ticking.{TimePassesReceiver}
 use Rattle.dcsctp_theorem_transfer.specs.Tracking.{SocketsTrackReceived}
 use Rattle.dcsctp_theorem_transfer.specs.Windows.{SocketsHoldPacket}
 
@@ -25,4 +29,9 @@ pub record TransferLaws : Type 0 where
   pub hearing : SenderHears
   pub recovering : LostDataComesThrough
   pub behind : LostDataComesBehind
+  pub calls : CallsRecover
+  pub passing : SuchPacketsPass
+  pub ticking : TimePassesReceiver
+  pub order : CallComesInOrder
+  pub delayed : CallSendsDelayedSack
   pub tracking : SocketsTrackReceived

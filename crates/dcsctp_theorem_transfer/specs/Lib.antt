@@ -11,3 +11,7 @@ pub mod Hearing
 pub mod Packing
 pub mod Recovering
 pub mod Tracking
+pub mod Expiring
+pub mod InOrder
+pub mod Ticking
+pub mod DelayOver

@@ -111,10 +111,11 @@ pub record IsLostBehind (e : Endpoint) (transfer : Transfer) : Type 0 where
   pub lasting : AllByRecursion IsLasting transfer.retransmission.outstanding.items
   pub first : IsFirstLost e transfer
 
--- The packet is the first of these, or the second.
+-- The packet is the first of these, or the second behind one of a SACK alone.
 pub data IsAmongFirst (packet : Emission) : List Emission → Type 0 where
   is_first : (others : List Emission) → IsAmongFirst packet (packet ∷ others)
-  is_second : (one : Emission) (others : List Emission) → IsAmongFirst packet (one ∷ packet ∷ others)
+  is_second : (one : Emission) (sack : SackContent) → one.packet.contents ≡ plain (unworked (sack_chunk sack)) ∷ []
+      → (others : List Emission) → IsAmongFirst packet (one ∷ packet ∷ others)
 
 -- One of the two brings the lowest TSN, whenever the other socket handles it.
 pub record ComesBehind (e : Endpoint) (old : Transfer) (packets : List Emission) : Type 0 where

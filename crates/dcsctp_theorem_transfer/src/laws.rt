@@ -1,8 +1,11 @@
 //! The laws of this crate.
 
 ghost use Rattle.dcsctp_theorem_transfer.specs.Deadlines.{RunningTimersCount};
+ghost use Rattle.dcsctp_theorem_transfer.specs.DelayOver.{CallSendsDelayedSack};
 ghost use Rattle.dcsctp_theorem_transfer.specs.Delaying.{SocketsAcknowledge};
+ghost use Rattle.dcsctp_theorem_transfer.specs.Expiring.{CallsRecover};
 ghost use Rattle.dcsctp_theorem_transfer.specs.Hearing.{SenderHears};
+ghost use Rattle.dcsctp_theorem_transfer.specs.InOrder.{CallComesInOrder, SuchPacketsPass};
 ghost use Rattle.dcsctp_theorem_transfer.specs.Laws.{TransferLaws};
 ghost use Rattle.dcsctp_theorem_transfer.specs.Leaving.{DataLeaves};
 ghost use Rattle.dcsctp_theorem_transfer.specs.Owing.{SocketsOweInTime};
@@ -11,6 +14,7 @@ ghost use Rattle.dcsctp_theorem_transfer.specs.Recovering.{LostDataComesBehind, 
 ghost use Rattle.dcsctp_theorem_transfer.specs.Resending.{LostDataIsSentAgain};
 ghost use Rattle.dcsctp_theorem_transfer.specs.Retransmitting.{SocketsRunT3};
 ghost use Rattle.dcsctp_theorem_transfer.specs.Taking.{DataIsTaken};
+ghost use Rattle.dcsctp_theorem_transfer.specs.Ticking.{TimePassesReceiver};
 ghost use Rattle.dcsctp_theorem_transfer.specs.Tracking.{SocketsTrackReceived};
 ghost use Rattle.dcsctp_theorem_transfer.specs.Windows.{SocketsHoldPacket};
 
@@ -118,6 +122,42 @@ pub fn lost_data_comes_behind()
     sacks_fit();
 }
 
+/// The call `advance_time` at T3's deadline, where neither T2 nor a request is due and the errors stay within the limit
+/// (RFC 9260, sections 6.3.3, 8.1 and 8.3). Its turns are those of the clock, of a delayed acknowledgement, of T3, of
+/// heartbeats, and a flush. The lowest outstanding TSN is in the first packet, or in the second behind a SACK alone; a
+/// HEARTBEAT may precede both. Whichever socket awaits it answers it with a SACK that passes it.
+pub fn calls_recover()
+    ensures { CallsRecover }
+{
+    sacks_fit();
+}
+
+/// A packet of a HEARTBEAT or of a SACK alone passes a socket that awaits data: it awaits them as before, and has received
+/// what it had, whatever it sends at the end of the packet (RFC 9260, sections 6.2, 6.2.1 and 8.3).
+pub fn such_packets_pass()
+    ensures { SuchPacketsPass }
+{}
+
+/// So does time: whatever timers expire in a call of `advance_time`, a socket that awaits data still does, unless T2 is
+/// due or too many errors count.
+pub fn time_passes_receiver()
+    ensures { TimePassesReceiver }
+{}
+
+/// The packets of the call at T3's deadline, handed to the other socket in order. At most two are in front of the one
+/// that brings the lowest outstanding TSN: a HEARTBEAT, and a SACK. The other socket passes these, and answers that one.
+pub fn call_comes_in_order()
+    ensures { CallComesInOrder }
+{
+    calls_recover();
+}
+
+/// A SACK that is delayed is sent by the call `advance_time` at the deadline of its delay, if no other timer is due: the
+/// first packet begins with it (RFC 9260, section 6.2).
+pub fn call_sends_delayed_sack()
+    ensures { CallSendsDelayedSack }
+{}
+
 /// All that is known of the transfer layer of an association: the laws above.
 pub fn transfer_laws()
     ensures { TransferLaws }
@@ -135,4 +175,9 @@ pub fn transfer_laws()
     sockets_track_received();
     lost_data_comes_through();
     lost_data_comes_behind();
+    calls_recover();
+    such_packets_pass();
+    time_passes_receiver();
+    call_comes_in_order();
+    call_sends_delayed_sack();
 }
