@@ -27,6 +27,8 @@ use Rattle.dcsctp_theorem_sockets.specs.Telling.{HasRecordedAssociation}
 use Rattle.dcsctp_theorem_sockets.specs.CookieLaws.{CookieLaws}
 use Rattle.dcsctp_theorem_progress.specs.Laws.{ProgressLaws}
 use Rattle.dcsctp_delivery_sockets.specs.sockets.ShownDelivery.{UsersReadWhatWasSent}
+use Rattle.dcsctp_delivery_recovery.specs.Flights.{HasSoundFlight}
+use Rattle.dcsctp_delivery_recovery.specs.Laws.{RecoveryLaws}
 use Rattle.dcsctp_core.specs.types.Schedule.{ActContent}
 use Rattle.dcsctp_world.specs.Shown.{ShownSide, WorldView, options_of}
 use Rattle.dcsctp_world.specs.Run.{SideRuns, IsRun, GoesWell}
@@ -34,6 +36,7 @@ use Rattle.dcsctp_world.specs.Handshake.{ShowsConnected, BothConnected, ShownHan
 use Rattle.dcsctp_world.specs.Promises.{KeepsPromises, Promises}
 use Rattle.dcsctp_world.specs.Recording.{Recording}
 use Rattle.dcsctp_world.proofs.Honest.{honest_run}
+use Rattle.dcsctp_world.proofs.Recovering.{losses_shown}
 
 -- ---- the handshake
 
@@ -109,8 +112,8 @@ keeps_promises law transfers options world run side =
       bursts = law.bursts options run.steps run.run side;
     }
 
-pub world_keeps : {R : Type 0} → SocketLaws → CookieLaws → UsersReadWhatWasSent → TransferLaws → ProgressLaws → (world : WorldView (Recording R)) → GoesWell world → Promises world
-world_keeps law cookies delivery transfers progress world well =
+pub world_keeps : {R : Type 0} → SocketLaws → CookieLaws → UsersReadWhatWasSent → TransferLaws → RecoveryLaws → ProgressLaws → (world : WorldView (Recording R)) → GoesWell world → Promises world
+world_keeps law cookies delivery transfers recovery progress world well =
     let options : Both Options = options_of world in
     let run : IsRun options world = well.is_run in
     record {
@@ -130,6 +133,12 @@ world_keeps law cookies delivery transfers progress world well =
       packing = λ honest side.
           subst (λ (e : Endpoint). FitsPackets (of_side side options) e.queues.transfer) (sym (run.sides side).endpoint)
           (transfers.packing options run.steps run.run honest side (run.usable side).valid);
+      flights = λ honest side.
+          subst (λ (e : Endpoint). HasSoundFlight e.queues.transfer) (sym (run.sides side).endpoint)
+          (recovery.flights options run.steps run.usable run.in_memory run.run honest side);
+      losses = λ honest fresh allows follow side.
+          losses_shown recovery.losses options world run
+          (record { usable = run.usable; in_memory = run.in_memory; is_run = run.run; honest = honest; fresh = fresh; allows = allows }) follow side;
       quiet = law.quiet options run.steps run.run;
       each = keeps_promises law transfers options world run;
     }

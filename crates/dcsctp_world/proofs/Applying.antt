@@ -16,6 +16,7 @@ use Rattle.dcsctp_theorem_progress.specs.Laws.{ProgressLaws}
 use Rattle.dcsctp_theorem_sockets.specs.Laws.{SocketLaws}
 use Rattle.dcsctp_theorem_sockets.specs.Restores.{RestoredSocketsBeginNothing}
 use Rattle.dcsctp_delivery_sockets.specs.sockets.ShownDelivery.{UsersReadWhatWasSent}
+use Rattle.dcsctp_delivery_recovery.specs.Laws.{RecoveryLaws}
 use Rattle.dcsctp_theorem_transfer.specs.Laws.{TransferLaws}
 use Rattle.dcsctp_delivery_sockets.specs.sockets.Delivery.{FitsAct}
 use Rattle.dcsctp_delivery_sockets.specs.sockets.UserMessages.{messages_of_turns, read_of}
@@ -146,6 +147,7 @@ pub record KnownLaws : Type 0 where
   pub cookies : CookieLaws
   pub delivery : UsersReadWhatWasSent
   pub transfers : TransferLaws
+  pub recovery : RecoveryLaws
   pub progress : ProgressLaws
   pub sound : SocketsStaySound
   pub restores : RestoredSocketsBeginNothing
@@ -160,7 +162,7 @@ applied_next stream laws act reply old new fits well applied whole =
       options = is_run_options (options_of old) new run;
       restores = restores_by (recorded_stream stream) laws.restores act reply old new (both_sound laws.sound (options_of old) old well.is_run) applied;
       continues = λ options earlier. shows_next (recorded_stream stream) options act reply old new fits earlier applied;
-      keeps = world_keeps laws.sockets laws.cookies laws.delivery laws.transfers laws.progress new (record { is_run = is_run_of_own (options_of old) new run; whole = whole });
+      keeps = world_keeps laws.sockets laws.cookies laws.delivery laws.transfers laws.recovery laws.progress new (record { is_run = is_run_of_own (options_of old) new run; whole = whole });
     }
 
 -- the world's own flag doesn't matter where it is not set

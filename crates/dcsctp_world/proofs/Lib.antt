@@ -9,6 +9,7 @@ mod HandingOn
 mod Honest
 mod Keeping
 mod QuietTurns
+mod Recovering
 mod Running
 mod SaidMessages
 mod SentMessages

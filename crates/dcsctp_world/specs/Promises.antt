@@ -7,8 +7,8 @@ use Rattle.dcsctp_core.specs.types.Schedule.{AreHonest}
 use Rattle.dcsctp_core.specs.spec.endpoint.Endpoint.{fresh_endpoint}
 use Rattle.dcsctp_core.specs.spec.endpoint.CallTurns.{Transition, AlongTurns}
 use Rattle.dcsctp_spec_runs.specs.Past.{Each, InPlace}
-use Rattle.dcsctp_spec_runs.specs.Sockets.{of_side, turns_after, acts_of}
-use Rattle.dcsctp_theorem_sockets.specs.Agreement.{AgreeThroughout, recorded_past}
+use Rattle.dcsctp_spec_runs.specs.Sockets.{of_side, of_other, turns_after, acts_of}
+use Rattle.dcsctp_theorem_sockets.specs.Agreement.{AgreeThroughout, AreFresh, recorded_past}
 use Rattle.dcsctp_theorem_sockets.specs.Deadlines.{RunsT1}
 use Rattle.dcsctp_theorem_transfer.specs.Deadlines.{AsksInTime}
 use Rattle.dcsctp_theorem_transfer.specs.Delaying.{AcknowledgesInTime}
@@ -21,7 +21,10 @@ use Rattle.dcsctp_theorem_sockets.specs.OneSocket.{EndsByAnswer, ReportsEnd, IsW
 use Rattle.dcsctp_theorem_sockets.specs.Telling.{ReportsRecorded, HasRecordedAssociation, AreNewRecords}
 use Rattle.dcsctp_theorem_sockets.specs.Ages.{AgeThroughout}
 use Rattle.dcsctp_theorem_sockets.specs.Cookies.{GivesCookiesThroughout}
-use Rattle.dcsctp_delivery_sockets.specs.sockets.ShownDelivery.{DeliverThroughout}
+use Rattle.dcsctp_delivery_sockets.specs.sockets.ShownDelivery.{AllowsDelivery, DeliverThroughout}
+use Rattle.dcsctp_delivery_recovery.specs.Flights.{HasSoundFlight}
+use Rattle.dcsctp_delivery_recovery.specs.Received.{AreEstablished}
+use Rattle.dcsctp_delivery_recovery.specs.Recovered.{FollowRfc, RecoversLosses}
 use Rattle.dcsctp_world.specs.Connecting.{ShownRoundsConnect}
 use Rattle.dcsctp_world.specs.Drawing.{AreWhole}
 use Rattle.dcsctp_world.specs.Handshake.{ShownHandshakeConnects}
@@ -57,6 +60,10 @@ pub record KeepsPromises {R : Type 0} (options : Options) (turns : List Transiti
   pub sizes : AllByRecursion (IsWithinLimit options) side.packets
   -- No turn sends more packets than its input allows, and what a flush may send.
   pub bursts : AlongTurns TurnKeepsBurst (fresh_endpoint options) turns
+
+-- Where both sides are shown as Established and crossed, the one recovers what it lost.
+abbrev pub ShownLossesComeThrough : {R : Type 0} → ShownSide R → ShownSide R → Type 0
+ShownLossesComeThrough side other = AreEstablished side.socket.view.endpoint other.socket.view.endpoint → RecoversLosses side.socket.view.endpoint other.socket.view.endpoint
 
 -- What holds of a world that has not failed. `agree` and `delivered` speak of each first part of the run that has no act from
 -- outside, and in which no side drew a verification tag twice. `given` and `ages` have the first of these premises alone.
@@ -95,6 +102,12 @@ pub record Promises {R : Type 0} (world : WorldView (Recording R)) : Type 0 wher
       → HoldsPacket (of_side side (options_of world)) (of_side side world.sides).socket.view.endpoint.queues.transfer
   -- In such a run each item that is outstanding fits a packet, so it can be sent again.
   pub packing : AreHonest (acts_of run.steps) → (side : Side) → FitsPackets (of_side side (options_of world)) (of_side side world.sides).socket.view.endpoint.queues.transfer
+  -- It has bytes, or was abandoned; and fewer than 2^31 items are outstanding.
+  pub flights : AreHonest (acts_of run.steps) → (side : Side) → HasSoundFlight (of_side side world.sides).socket.view.endpoint.queues.transfer
+  -- In a run that allows delivery, what was lost comes through once T3 expires, if both sockets have `follow_rfc` and are shown as
+  -- Established and crossed, and the receiver has room.
+  pub losses : AreHonest (acts_of run.steps) → AreFresh (turns_after run.steps) → AllowsDelivery (options_of world) run.steps → FollowRfc (options_of world) → (side : Side)
+      → ShownLossesComeThrough (of_side side world.sides) (of_other side world.sides)
   -- Time before the next deadline moves the clock alone, but for a socket that awaits a COOKIE ACK.
   pub quiet : TimeIsQuiet (options_of world) run.steps
   -- What each socket keeps by itself.

@@ -5,6 +5,7 @@ use crate::fits::act_fits;
 use crate::recorded::Recorded;
 use crate::watched_socket::WatchedSocket;
 use dcsctp_core::types::{Act, Outside, Side, Step};
+use dcsctp_delivery_recovery::recovery_laws;
 use dcsctp_delivery_sockets::users_read_what_was_sent;
 use dcsctp_socket::{Association, Message, Options, Pair, Socket, SocketEvent, SocketFault, Word};
 use dcsctp_spec_runs::{options_fit, sockets_stay_sound};
@@ -148,6 +149,7 @@ impl<R: Rng + Drop> World<R> {
         cookie_laws();
         users_read_what_was_sent();
         transfer_laws();
+        recovery_laws();
         progress_laws();
         let a = WatchedSocket::new(alloc, "a", a, Recorded::new(alloc, rng_a))?;
         let b = WatchedSocket::new(alloc, "b", b, Recorded::new(alloc, rng_b))?;
@@ -171,6 +173,7 @@ impl<R: Rng + Drop> World<R> {
         cookie_laws();
         users_read_what_was_sent();
         transfer_laws();
+        recovery_laws();
         progress_laws();
         sockets_stay_sound();
         restored_sockets_begin_nothing();
@@ -293,6 +296,7 @@ impl<R: Rng + Drop> World<R> {
         cookie_laws();
         users_read_what_was_sent();
         transfer_laws();
+        recovery_laws();
         progress_laws();
         for step in steps {
             self.apply(step)?;

@@ -22,6 +22,7 @@ returns-in-Ok g c =
       cookies = c.cookie_laws.ensures;
       delivery = c.users_read_what_was_sent.ensures;
       transfers = c.transfer_laws.ensures;
+      recovery = c.recovery_laws.ensures;
       progress = c.progress_laws.ensures;
       sound = c.sockets_stay_sound.ensures;
       restores = c.restored_sockets_begin_nothing.ensures;

@@ -34,4 +34,4 @@ pub returns-clause-keeps : goal.returns-clause-keeps
 returns-clause-keeps g c =
     let world : WorldView (Recording g.row.R.Denot) = world_of c.in_ok-a.a c.in_ok-b.b c.new-5.result.items false in
     let well : GoesWell world = invariant_of-result g c refl in
-    world_keeps c.socket_laws.ensures c.cookie_laws.ensures c.users_read_what_was_sent.ensures c.transfer_laws.ensures c.progress_laws.ensures world well
+    world_keeps c.socket_laws.ensures c.cookie_laws.ensures c.users_read_what_was_sent.ensures c.transfer_laws.ensures c.recovery_laws.ensures c.progress_laws.ensures world well

@@ -12,7 +12,7 @@ use Rattle.dcsctp_world.proofs.world.World.run.Goals as goal
 pub loop-step-init : goal.loop-step-init
 loop-step-init g c =
     let inside = world_of c.self.inside.a c.self.inside.b c.self.inside.acts.items c.self.inside.failed in
-    let keeps = world_keeps c.socket_laws.ensures c.cookie_laws.ensures c.users_read_what_was_sent.ensures c.transfer_laws.ensures c.progress_laws.ensures inside (c.self.invariant c.if-self.false) in
+    let keeps = world_keeps c.socket_laws.ensures c.cookie_laws.ensures c.users_read_what_was_sent.ensures c.transfer_laws.ensures c.recovery_laws.ensures c.progress_laws.ensures inside (c.self.invariant c.if-self.false) in
     subst (λ (w : WorldView (Recording g.row.R.Denot)). Ran g.R.Rng.stream [] w w) c.self.view_is (ran_none g.R.Rng.stream inside c.if-self.false keeps)
 
 pub loop-step-preserved : goal.loop-step-preserved

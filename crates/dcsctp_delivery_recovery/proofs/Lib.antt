@@ -1,0 +1,13 @@
+mod WaitingStreams
+mod WaitingQueues
+mod LeavingBytes
+mod SoundItems
+mod SoundStages
+mod SoundActions
+mod SoundTurns
+mod SoundSockets
+mod ReceivedParts
+mod Crossing
+mod ConnectedSides
+mod LostFirst
+mod Recovered

@@ -1,0 +1,4 @@
+pub mod Flights
+pub mod Received
+pub mod Recovered
+pub mod Laws
