@@ -18,16 +18,19 @@ use Rattle.dcsctp_channel_calls.specs.Calls.{OnlySocket, on_layer}
 use Rattle.dcsctp_channel_calls.specs.Events.{rows_taken}
 use Rattle.dcsctp_channel_calls.specs.Opening.{is_taken, GetsStream, ReadiesStream, opening_said, view_after_open, Agrees, without_stream, BeginsOn, channels_waiting, BeginsInTurn, none_waits, begins, waits_on, BeginsWhereKnown, may_begin, BeginsWaiting}
 use Rattle.dcsctp_channel_calls.specs.Sending.{plainly, control_message, row_taken_if_held}
-use Rattle.dcsctp_channel_calls.specs.View.{WaitingChannel, ChannelNotice, of_channel, LayerView, ChannelsView, held_stream_numbered, slot_numbered, row_taken, packets_of_layer_events, view_with_events}
+use Rattle.dcsctp_channel_calls.specs.View.{WaitingChannel, ChannelNotice, of_channel, LayerView, ChannelsView, entry_numbered, held_stream_numbered, slot_numbered, row_taken, packets_of_layer_events, view_with_events}
 use Rattle.dcsctp_channel_runs.specs.Acts.{AreByteValues, OpenedChannel}
-use Rattle.dcsctp_channel_runs.proofs.Said.{none_sent, an_open, none_heard, Wait, same_le, WaitsFor, WaitsToOpen, wait_from}
-use Rattle.dcsctp_channel_runs.proofs.Moves.{Moves, moves_then, unmoved, Silently, silently_same, silently_then, layer_moves, stays}
+use Rattle.dcsctp_channel_runs.proofs.Said.{Wait, same_le, WaitsFor, WaitsToOpen, wait_from}
+use Rattle.dcsctp_channel_runs.proofs.Moves.{hears_nothing, Moves, moves_then, unmoved, Silently, silently_same, silently_then, layer_moves, stays}
 use Rattle.dcsctp_channel_runs.proofs.Notices.{Tells, tells_nothing}
-use Rattle.dcsctp_channel_runs.proofs.Streams.{Keeping, same_keeps}
-use Rattle.dcsctp_channel_runs.proofs.Naming.{row_keeping, begun_noted, gets_free, ends_keeping}
+use Rattle.dcsctp_channel_runs.proofs.SentBy.{none_sent, an_open}
+use Rattle.dcsctp_channel_calls.specs.api.spec.endpoint.MessageOutcomes.{sending_of}
+use Rattle.dcsctp_channel_runs.proofs.Streams.{keep_plain, Keeping, same_keeps}
+use Rattle.dcsctp_channel_runs.proofs.Naming.{row_keeping, waits_to_come, begun_noted, begun_on, rules_begun, gets_free, ends_keeping}
 use Rattle.dcsctp_channel_runs.proofs.SlotNames.{names_none}
 use Rattle.dcsctp_channel_runs.proofs.Rows.{brings_nothing, row_tells, tells_more}
 use Rattle.dcsctp_channel_runs.proofs.Sockets.{readies_moves, send_moves}
+use Rattle.dcsctp_channel_runs.proofs.Heard.{IsPassed}
 
 -- ---- packets among events
 
@@ -76,7 +79,8 @@ module _ (keep : SocketsKeepOptions) (side : Side) (packets : List (List ℕ)) (
 
   pub gather_moves : (low : ℕ) (view : ChannelsView) → Wait all low view.layer.waiting view.layer.named → Moves keep side packets all [] low [] view [] (view_with_events view)
   gather_moves low view waits =
-      unmoved keep side packets all [] low view [] (view_with_events view) [] [] [] (same_keeps view.layer (view_with_events view).layer refl refl refl refl) (λ orderly. tt) refl (gathered_left view) waits none_heard (tells_nothing view.layer.notices)
+      unmoved keep side packets all [] low view [] (view_with_events view) [] [] [] (same_keeps view.layer (view_with_events view).layer refl refl refl refl (λ was. was)) (λ orderly. tt) refl (gathered_left view) waits
+      (hears_nothing [] (IsPassed view.below.endpoint []) view.layer (view_with_events view).layer (same_keeps view.layer (view_with_events view).layer refl refl refl refl (λ was. was))) (tells_nothing view.layer.notices)
 
   -- the socket makes a call, and its events are taken over
   pub only_moves : (low : ℕ) (Makes : UserView → Type 0) (old new : ChannelsView) → (only : OnlySocket Makes old new)
@@ -95,12 +99,12 @@ module _ (keep : SocketsKeepOptions) (side : Side) (packets : List (List ℕ)) (
 
   pub held_silently : (held : Option HeldStream) (number : ℕ) (input : SlotInput) (layer : LayerView) → brings_nothing input ≡ true → names_none input ≡ true
       → Silently keep side packets all layer (row_taken_if_held held number input layer)
-  held_silently None number input layer none names = silently_same keep side packets all layer layer refl refl refl refl refl refl
+  held_silently None number input layer none names = silently_same keep side packets all layer layer refl refl refl refl refl refl (λ was. was)
   held_silently (Some held) number input layer none names = row_silently number held.delivery input layer none names
 
   pub rows_silently : (numbers : List ℕ) (input : SlotInput) (layer : LayerView) → brings_nothing input ≡ true → names_none input ≡ true
       → Silently keep side packets all layer (rows_taken numbers input layer)
-  rows_silently [] input layer none names = silently_same keep side packets all layer layer refl refl refl refl refl refl
+  rows_silently [] input layer none names = silently_same keep side packets all layer layer refl refl refl refl refl refl (λ was. was)
   rows_silently (number ∷ numbers) input layer none names =
       let next : LayerView = row_taken_if_held (held_stream_numbered layer number) number input layer in
       silently_then keep side packets all layer next (rows_taken numbers input next) (held_silently (held_stream_numbered layer number) number input layer none names) (rows_silently numbers input next none names)
@@ -118,12 +122,20 @@ module _ (keep : SocketsKeepOptions) (side : Side) (packets : List (List ℕ)) (
       let now : Wait all first.steps.high (waits ∷ rest) old.layer.named = subst (λ (l : List WaitingChannel). Wait all first.steps.high l old.layer.named) is first.waits in
       let channel : OpenedChannel = record { name = waits.name; opening = wanted.opening } in
       let after : LayerView = row_taken number waits.delivery (opens waits.name (opening_said waits.payload)) (channels_waiting rest old.layer) in
+      let begun : Keeping ((waits.name, number) ∷ []) old.layer new.layer =
+      subst (λ (l : LayerView). Keeping ((waits.name, number) ∷ []) old.layer l) (sym row)
+      (begun_noted number waits.delivery (opens waits.name (opening_said waits.payload)) old.layer waits rest is is_free refl (λ n. tt)) in
       moves_then keep side packets all [] low old ready [] new first
       (send_moves keep side packets all first.steps.high (waits.name + 1) (control_message number waits.payload) plainly (channel ∷ []) [] ((waits.name, number) ∷ []) ready new (Ok tt)
       (open_fits all number waits readies.fits wanted)
-      (subst (λ (l : LayerView). Keeping ((waits.name, number) ∷ []) old.layer l) (sym row)
-      (begun_noted number waits.delivery (opens waits.name (opening_said waits.payload)) old.layer waits rest is is_free refl)) sends
-      (an_open (control_message number waits.payload) channel [] [] [] (record { ppid = refl; payload = wanted.payload; fits = wanted.good.fits }) (inl refl) tt none_sent)
+      begun sends
+      (λ orderly.
+      let keeps = begun orderly in
+      let gets : entry_numbered waits.name new.layer.names ≡ Some number = begun_on number waits.delivery (opens waits.name (opening_said waits.payload)) old.layer waits rest is is_free refl (λ n. tt) new.layer row orderly in
+      an_open old.layer new.layer (sending_of plainly (control_message number waits.payload)) channel [] [] [] (keep_plain keeps) (record { ppid = refl; payload = wanted.payload; fits = wanted.good.fits }) refl
+      (waits_to_come waits rest old.layer is orderly) (inl refl) tt
+      (record { on = gets; rules = rules_begun number waits.delivery waits.name (opening_said waits.payload) (channels_waiting rest old.layer) new.layer is_free row ∙ ap (λ (d : Delivery). Some d) wanted.rules })
+      (none_sent new.layer (same_keeps new.layer new.layer refl refl refl refl (λ was. was) keeps.orderly)))
       (now.0, wanted.opened, same_le (waits.name + 1))
       (ap (λ (l : LayerView). l.packets) row)
       (subst (λ (l : LayerView). Wait all (waits.name + 1) l.waiting l.named) (sym row) now.2)
@@ -134,13 +146,14 @@ module _ (keep : SocketsKeepOptions) (side : Side) (packets : List (List ℕ)) (
   refused_moves : (low number : ℕ) (waits : WaitingChannel) (old new : ChannelsView) (prepared : UserView) (refusal : SendError)
       → ReadiesStream number waits.delivery.priority old.below prepared → WaitsToOpen all waits → SendsMessage (control_message number waits.payload) plainly prepared (Ok (Err refusal)) new.below
       → new.layer.packets ≡ old.layer.packets → new.layer.streams ≡ old.layer.streams → new.layer.names ≡ old.layer.names → new.layer.waiting ≡ old.layer.waiting → new.layer.named ≡ old.layer.named
-      → new.layer.notices ≡ old.layer.notices → Wait all low old.layer.waiting old.layer.named → Moves keep side packets all [] low [] old [] new
-  refused_moves low number waits old new prepared refusal readies wanted sends left streams names waiting named same wait =
+      → new.layer.notices ≡ old.layer.notices → (old.layer.over ≡ true → new.layer.over ≡ true) → Wait all low old.layer.waiting old.layer.named → Moves keep side packets all [] low [] old [] new
+  refused_moves low number waits old new prepared refusal readies wanted sends left streams names waiting named same over wait =
       let ready : ChannelsView = record old { below = prepared } in
       let first = readies_moves keep side packets all low number waits.delivery.priority old prepared readies wait in
       moves_then keep side packets all [] low old ready [] new first
       (send_moves keep side packets all first.steps.high first.steps.high (control_message number waits.payload) plainly [] [] [] ready new (Err refusal)
-      (open_fits all number waits readies.fits wanted) (same_keeps old.layer new.layer streams names waiting named) sends none_sent (same_le first.steps.high) left
+      (open_fits all number waits readies.fits wanted) (same_keeps old.layer new.layer streams names waiting named over) sends
+      (λ orderly. none_sent old.layer (same_keeps old.layer new.layer streams names waiting named over orderly)) (same_le first.steps.high) left
       (subst (λ (l : List WaitingChannel). Wait all first.steps.high l new.layer.named) (sym waiting)
       (subst (λ (n : ℕ). Wait all first.steps.high old.layer.waiting n) (sym named) first.waits))
       (subst (λ (l : List ChannelNotice). Tells [] [] [] old.layer.notices l) (sym same) (tells_nothing old.layer.notices)))
@@ -166,8 +179,9 @@ module _ (keep : SocketsKeepOptions) (side : Side) (packets : List (List ℕ)) (
       subst (λ (v : ChannelsView). Moves keep side packets all [] low [] old [] v) (sym made.is)
       (moves_then keep side packets all [] low old ready [] after first
       (unmoved keep side packets all [] first.steps.high ready [] after [] [] ((waits.name, number) ∷ [])
-      (begun_noted number waits.delivery (agrees waits.name) old.layer waits rest is is_free refl) (λ orderly. tt) refl refl
-      (behind_first first.steps.high waits rest old.layer.named (subst (λ (l : List WaitingChannel). Wait all first.steps.high l old.layer.named) is first.waits)) none_heard
+      (begun_noted number waits.delivery (agrees waits.name) old.layer waits rest is is_free refl (λ n. tt)) (λ orderly. tt) refl refl
+      (behind_first first.steps.high waits rest old.layer.named (subst (λ (l : List WaitingChannel). Wait all first.steps.high l old.layer.named) is first.waits))
+      (hears_nothing ((waits.name, number) ∷ []) (IsPassed made.prepared.endpoint []) old.layer after.layer (begun_noted number waits.delivery (agrees waits.name) old.layer waits rest is is_free refl (λ n. tt)))
       (row_tells number waits.delivery (agrees waits.name) (channels_waiting rest old.layer) refl)))
 
   -- The first that waits begins, or is over.
@@ -209,7 +223,7 @@ module _ (keep : SocketsKeepOptions) (side : Side) (packets : List (List ℕ)) (
       (ap (λ (v : ChannelsView). v.layer.names) new_is)
       (ap (λ (v : ChannelsView). v.layer.waiting) new_is ∙ sym is)
       (ap (λ (v : ChannelsView). v.layer.named) new_is)
-      (ap (λ (v : ChannelsView). v.layer.notices) new_is) wait
+      (ap (λ (v : ChannelsView). v.layer.notices) new_is) (λ was. ap (λ (v : ChannelsView). v.layer.over) new_is ∙ was) wait
 
   first_opened : (low : ℕ) (waits : WaitingChannel) (rest : List WaitingChannel) (waiting : List WaitingChannel) (named : ℕ) → waiting ≡ waits ∷ rest → Wait all low waiting named
       → WaitsFor all waits.negotiated waits

@@ -1,5 +1,5 @@
 -- What a message of the peer is to its stream.
-use Rattle.std.proofs.Common.{◌≡◌, ◌==◌, ℕ, Bool, true, false, nat_lt, Option, Some, None, Result, Ok, Err, length, refl}
+use Rattle.std.proofs.Common.{◌≡◌, ◌==◌, ◌⊎◌, ℕ, Bool, true, false, nat_lt, Option, Some, None, Result, Ok, Err, length, refl, inl, inr}
 use Rattle.std.specs.Prelude.{if◌then◌else◌}
 use Rattle.std.proofs.lemmas.Bool.{eqb-true}
 use Rattle.dcsctp_channel_calls.specs.api.types.queues.Messages.{MessageContent}
@@ -10,7 +10,7 @@ use Rattle.dcsctp_channel_calls.specs.messages.Format.{Control, open_message, ac
 use Rattle.dcsctp_channel_calls.specs.Arrivals.{accepts_open, input_of_control, input_of_content, input_of, message_taken, TakesRow}
 use Rattle.dcsctp_channel_calls.specs.Calls.{on_layer}
 use Rattle.dcsctp_channel_calls.specs.View.{LayerView, ChannelsView}
-use Rattle.dcsctp_channel_runs.proofs.Said.{SaysOpen, SaysContent}
+use Rattle.dcsctp_channel_runs.proofs.Heard.{SaysOpen, SaysContent}
 use Rattle.dcsctp_channel_runs.proofs.SlotNames.{names_none}
 use Rattle.dcsctp_channel_runs.proofs.Rows.{brings_nothing}
 
@@ -18,24 +18,24 @@ use Rattle.dcsctp_channel_runs.proofs.Rows.{brings_nothing}
 
 -- It brings nothing of the peer's user; or it is an OPEN that is accepted; or it is a message of the user.
 pub data Brings (layer : LayerView) (m : MessageContent) : SlotInput → Type 0 where
-  nothing_new : (input : SlotInput) → brings_nothing input ≡ true → names_none input ≡ true → Brings layer m input
+  nothing_new : (input : SlotInput) → brings_nothing input ≡ true → names_none input ≡ true → (m.ppid ≡ control_ppid) ⊎ (input ≡ hears_bad_message) → Brings layer m input
   a_new_channel : (opening : Opening) → SaysOpen m (record { name = layer.named; opening = opening }) → Brings layer m (hears_open true layer.named opening)
   a_new_message : (content : ChannelContent) → SaysContent m content → Brings layer m (hears_message content)
 
 pub open_brings : (layer : LayerView) (m : MessageContent) (opening : Opening) (accepted : Bool) → m.ppid ≡ control_ppid → control_of_bytes m.payload ≡ Ok (open_message opening)
     → Brings layer m (hears_open accepted layer.named opening)
 open_brings layer m opening true ppid read = a_new_channel opening (record { ppid = ppid; payload = read })
-open_brings layer m opening false ppid read = nothing_new (hears_open false layer.named opening) refl refl
+open_brings layer m opening false ppid read = nothing_new (hears_open false layer.named opening) refl refl (inl ppid)
 
 pub control_brings : (layer : LayerView) (m : MessageContent) (read : Result Control ControlError) → m.ppid ≡ control_ppid → control_of_bytes m.payload ≡ read
     → Brings layer m (input_of_control layer m.stream read)
-control_brings layer m (Ok acknowledgement) ppid is = nothing_new hears_ack refl refl
+control_brings layer m (Ok acknowledgement) ppid is = nothing_new hears_ack refl refl (inl ppid)
 control_brings layer m (Ok (open_message opening)) ppid is = open_brings layer m opening (accepts_open layer m.stream opening) ppid is
-control_brings layer m (Err error) ppid is = nothing_new hears_bad_message refl refl
+control_brings layer m (Err error) ppid is = nothing_new hears_bad_message refl refl (inl ppid)
 
 pub content_brings : (layer : LayerView) (m : MessageContent) (is_long : Bool) (content : Option ChannelContent) → content_from m.ppid m.payload ≡ content → Brings layer m (input_of_content is_long content)
-content_brings layer m true content is = nothing_new hears_bad_message refl refl
-content_brings layer m false None is = nothing_new hears_bad_message refl refl
+content_brings layer m true content is = nothing_new hears_bad_message refl refl (inr refl)
+content_brings layer m false None is = nothing_new hears_bad_message refl refl (inr refl)
 content_brings layer m false (Some content) is = a_new_message content is
 
 pub either_brings : (layer : LayerView) (m : MessageContent) (is_control : Bool) → (m.ppid == control_ppid) ≡ is_control

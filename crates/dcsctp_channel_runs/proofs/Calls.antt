@@ -31,14 +31,19 @@ use Rattle.dcsctp_channel_runs.proofs.Streams.{same_keeps, note_before}
 use Rattle.dcsctp_channel_runs.proofs.Naming.{named_keeping, closes_keeping, counted_keeping, open_has_stream}
 use Rattle.dcsctp_channel_runs.proofs.Begins.{only_moves, held_silently, waiting_moves}
 use Rattle.dcsctp_channel_runs.proofs.Events.{then_begins}
-use Rattle.dcsctp_channel_runs.proofs.Moves.{Moves, moves_then, socket_moves, Silently, silently_same, layer_moves, silent_moves, stays}
+use Rattle.dcsctp_channel_runs.proofs.Moves.{Moves, moves_then, Silently, silently_same, layer_moves, silent_moves, stays}
+use Rattle.dcsctp_channel_runs.proofs.SocketMoves.{socket_moves}
 use Rattle.dcsctp_channel_runs.proofs.Notices.{tells_nothing}
 use Rattle.dcsctp_channel_runs.proofs.Polls.{polls_move}
 use Rattle.dcsctp_channel_runs.proofs.QuietTurns.{input_quiet}
 use Rattle.dcsctp_channel_runs.proofs.Rows.{tells_more}
-use Rattle.dcsctp_channel_runs.proofs.Said.{Sent, none_sent, a_content, IsGood, WaitsFor, Wait, same_le, wait_from, wait_more}
-use Rattle.dcsctp_channel_runs.proofs.Sockets.{connect_moves, close_moves, shutdown_moves, advance_moves, set_moves, send_moves}
+use Rattle.dcsctp_channel_runs.proofs.Said.{IsGood, WaitsFor, Wait, same_le, wait_from, wait_more}
+use Rattle.dcsctp_channel_runs.proofs.Sockets.{connect_moves, close_moves, shutdown_moves, advance_moves, set_moves, send_moves, sends_nothing}
 use Rattle.dcsctp_channel_runs.proofs.Bytes.{texts_short, opening_good, content_message_fits}
+use Rattle.dcsctp_channel_runs.proofs.Ruling.{sent_by_rules, open_unless_closing}
+use Rattle.dcsctp_channel_runs.proofs.Deeds.{deeds_of_turns}
+use Rattle.dcsctp_channel_calls.specs.api.spec.endpoint.MessageOutcomes.{sending_of}
+use Rattle.dcsctp_channel_runs.proofs.SentBy.{none_sent, a_content}
 
 -- ---- packets
 
@@ -92,7 +97,7 @@ module _ (keep : SocketsKeepOptions) (side : Side) (packets : List (List ℕ)) (
         };
         endpoint = made.follows.endpoint;
         events = made.follows.events;
-      }) (same_keeps old.layer old.layer refl refl refl refl) refl (subst (λ (l : List MessageContent). Sent [] l [] []) (sym quiet.sent) none_sent) (same_le low) quiet.read wait (tells_nothing old.layer.notices)
+      }) (same_keeps old.layer old.layer refl refl refl refl (λ was. was)) refl (sends_nothing (deeds_of_turns old.below.endpoint made.turns) old.layer old.layer quiet.deeds (same_keeps old.layer old.layer refl refl refl refl (λ was. was))) (same_le low) quiet.read wait (tells_nothing old.layer.notices)
 
   -- this of the layer, and then a call of the socket
   layer_then_only : (low : ℕ) (becomes : LayerView → LayerView) (Makes : UserView → Type 0) (old new : ChannelsView) → Silently keep side packets all old.layer (becomes old.layer)
@@ -111,7 +116,7 @@ module _ (keep : SocketsKeepOptions) (side : Side) (packets : List (List ℕ)) (
       → WaitsFor all negotiated (record { name = named; payload = open_bytes opening; delivery = opening.delivery; negotiated = negotiated })
   waits_for opening (Some agreed) id named is good entries = tt
   waits_for opening None id named is good entries =
-      record { opening = opening; payload = refl; good = good; opened = subst (λ (n : ℕ). HasEntry (record { name = n; opening = opening }) all) is (entries (record { name = id.0; opening = opening }) (inl refl)) }
+      record { opening = opening; payload = refl; rules = refl; good = good; opened = subst (λ (n : ℕ). HasEntry (record { name = n; opening = opening }) all) is (entries (record { name = id.0; opening = opening }) (inl refl)) }
 
   opens_move : (low : ℕ) (opening : Opening) (negotiated : Option ℕ) (refusal : Option ChannelError) (answer : Result ChannelId ChannelError) (old new : ChannelsView)
       → open_refusal opening negotiated old ≡ refusal → OpensOrRefuses opening negotiated refusal answer old new → IsInMemory opening
@@ -138,6 +143,8 @@ module _ (keep : SocketsKeepOptions) (side : Side) (packets : List (List ℕ)) (
       let after : ChannelsView = view_after_send (Ok done) number (length content.bytes) held made.below old.layer in
       let said : SaidContent = record { message = record { name = name; content = content }; after = after.layer } in
       let on = open_has_stream old.layer name (number, held) found in
+      let is_held = open_is old.layer (number, held) name found in
+      let counted = counted_keeping number (length content.bytes) held old.layer is_held in
       let answered : answer ≡ Ok done = made.answer_is ∙ ap refusal_as is in
       let new_is : new ≡ view_after_send (Ok done) number (length content.bytes) held made.below old.layer =
       made.is ∙ ap (λ (t : Result (Unit {0}) SendError). view_after_send t number (length content.bytes) held made.below old.layer) is in
@@ -145,10 +152,12 @@ module _ (keep : SocketsKeepOptions) (side : Side) (packets : List (List ℕ)) (
       (subst (λ (v : ChannelsView). Moves keep side packets all [] low (said_contents (calls (sends_content name content (Ok done))) v.layer) old [] v) (sym new_is)
       (send_moves keep side packets all low low message made.how [] (said ∷ []) ((name, number) ∷ []) old after (Ok done)
       (content_message_fits number content made.fits fits)
-      (note_before name number old.layer after.layer (λ a. on)
-      (counted_keeping number (length content.bytes) held old.layer (open_is old.layer (number, held) name found)))
+      (note_before name number old.layer after.layer (λ a. on) counted)
       (subst (λ (t : Result (Unit {0}) SendError). SendsMessage message made.how old.below (Ok t) made.below) is made.sends)
-      (a_content message said [] [] [] (record { ppid = refl; payload = refl }) (inl refl) on none_sent) (same_le low) refl wait (tells_nothing old.layer.notices)))
+      (λ orderly. let keeps = counted orderly in
+      a_content old.layer (sending_of made.how message) said [] [] [] keeps (record { ppid = refl; payload = refl }) (inl refl)
+      (sent_by_rules number (length content.bytes) name held content made.how old.layer on is_held (open_unless_closing old.layer name number held found) made.sending)
+      (none_sent after.layer (same_keeps after.layer after.layer refl refl refl refl (λ was. was) keeps.orderly))) (same_le low) refl wait (tells_nothing old.layer.notices)))
   sent_on_moves low number name held content answer (Err refusal) old new made is found fits wait =
       let message : MessageContent = record { stream = number; ppid = content_ppid content; payload = payload_of content } in
       let answered : answer ≡ refusal_as (Err refusal) = made.answer_is ∙ ap refusal_as is in
@@ -157,9 +166,9 @@ module _ (keep : SocketsKeepOptions) (side : Side) (packets : List (List ℕ)) (
       subst (λ (a : Result (Unit {0}) ChannelError). Moves keep side packets all [] low (said_contents (calls (sends_content name content a)) new.layer) old [] new) (sym answered)
       (subst (λ (v : ChannelsView). Moves keep side packets all [] low [] old [] v) (sym new_is)
       (send_moves keep side packets all low low message made.how [] [] [] old (view_after_send (Err refusal) number (length content.bytes) held made.below old.layer) (Err refusal)
-      (content_message_fits number content made.fits fits) (same_keeps old.layer old.layer refl refl refl refl)
+      (content_message_fits number content made.fits fits) (same_keeps old.layer old.layer refl refl refl refl (λ was. was))
       (subst (λ (t : Result (Unit {0}) SendError). SendsMessage message made.how old.below (Ok t) made.below) is made.sends)
-      none_sent (same_le low) refl wait (tells_nothing old.layer.notices)))
+      (sends_nothing [] old.layer old.layer refl (same_keeps old.layer old.layer refl refl refl refl (λ was. was))) (same_le low) refl wait (tells_nothing old.layer.notices)))
 
   sends_move : (low : ℕ) (found : Option (ℕ × HeldStream)) (name : ℕ) (content : ChannelContent) (answer : Result (Unit {0}) ChannelError) (old new : ChannelsView)
       → open_stream old.layer name ≡ found → SendsIfOpen found content answer old new → FitsChannelContent content → Wait all low old.layer.waiting old.layer.named
@@ -192,22 +201,22 @@ module _ (keep : SocketsKeepOptions) (side : Side) (packets : List (List ℕ)) (
 
   -- ---- any call
 
-  same_silently : (old new : LayerView) → new.packets ≡ old.packets → new.streams ≡ old.streams → new.names ≡ old.names → new.waiting ≡ old.waiting → new.named ≡ old.named → new.notices ≡ old.notices → Silently keep side packets all old new
-  same_silently old new left streams names waiting named same = silently_same keep side packets all old new left streams names waiting named same
+  same_silently : (old new : LayerView) → new.packets ≡ old.packets → new.streams ≡ old.streams → new.names ≡ old.names → new.waiting ≡ old.waiting → new.named ≡ old.named → new.notices ≡ old.notices → (old.over ≡ true → new.over ≡ true) → Silently keep side packets all old new
+  same_silently old new left streams names waiting named same over = silently_same keep side packets all old new left streams names waiting named same over
 
   call_moves : (low : ℕ) (given : List (List ℕ)) (call : ChannelsCall) (old new : ChannelsView) → ((packet : List ℕ) → HasEntry packet given → HasEntry packet packets) → FitsEndCall call
       → ((channel : OpenedChannel) → HasEntry channel (channels_of_act (calls call)) → HasEntry channel all) → HandsInOne given call → IsCallMade call old new
       → Wait all low old.layer.waiting old.layer.named → Moves keep side packets all [] low (said_contents (calls call) new.layer) old [] new
   call_moves low given (sets_role role) old new more fits entries hands made wait =
-      then_begins keep side packets all low (λ layer. record layer { role = Some role }) old new (same_silently old.layer (record old.layer { role = Some role }) refl refl refl refl refl refl) made wait
+      then_begins keep side packets all low (λ layer. record layer { role = Some role }) old new (same_silently old.layer (record old.layer { role = Some role }) refl refl refl refl refl refl (λ was. was)) made wait
   call_moves low given connects old new more fits entries hands made wait =
       only_moves keep side packets all low _ old new made (connect_moves keep side packets all low old made.below made.makes wait)
   call_moves low given (handles_input packet) old new more fits entries hands made wait =
       let room : LayerView → LayerView = λ layer. record layer { has_room = true } in
-      layer_then_only low room _ old new (same_silently old.layer (room old.layer) refl refl refl refl refl refl) made wait
+      layer_then_only low room _ old new (same_silently old.layer (room old.layer) refl refl refl refl refl refl (λ was. was)) made wait
       (λ from waits. input_moves from packet (on_layer room old) made.below (more packet hands) made.makes waits)
   call_moves low given (advances moment) old new more fits entries hands made wait =
-      layer_then_only low (clock_set moment) _ old new (same_silently old.layer (clock_set moment old.layer) refl refl refl refl refl refl) made wait
+      layer_then_only low (clock_set moment) _ old new (same_silently old.layer (clock_set moment old.layer) refl refl refl refl refl refl (λ was. was)) made wait
       (λ from waits. advance_moves keep side packets all from moment (on_layer (clock_set moment) old) made.below made.makes waits)
   call_moves low given aborts old new more fits entries hands made wait =
       only_moves keep side packets all low _ old new made (close_moves keep side packets all low old made.below made.makes wait)

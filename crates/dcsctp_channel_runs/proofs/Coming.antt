@@ -4,7 +4,7 @@ use Rattle.std.specs.List.{AllByRecursion}
 use Rattle.dcsctp_channel_calls.specs.View.{LayerView}
 use Rattle.dcsctp_channel_laws.specs.Lives.{IsOrderly}
 use Rattle.dcsctp_channel_runs.specs.Acts.{OpenedChannel}
-use Rattle.dcsctp_channel_runs.proofs.Said.{AreNamedElse}
+use Rattle.dcsctp_channel_runs.proofs.Heard.{AreNamedElse}
 use Rattle.dcsctp_channel_runs.proofs.Streams.{IsOnOrGone, IsToCome, KeepStreams, to_come_else, to_come_before}
 
 -- These channels are still to come.

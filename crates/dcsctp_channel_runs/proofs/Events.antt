@@ -47,7 +47,7 @@ module _ (keep : SocketsKeepOptions) (side : Side) (packets : List (List ℕ)) (
   streams_lost_silently : (layer : LayerView) → Silently keep side packets all layer (streams_lost layer)
   streams_lost_silently layer =
       let over : LayerView = record layer { over = true; connected = false } in
-      silently_then keep side packets all layer over (streams_lost layer) (silently_same keep side packets all layer over refl refl refl refl refl refl)
+      silently_then keep side packets all layer over (streams_lost layer) (silently_same keep side packets all layer over refl refl refl refl refl refl (λ was. refl))
       (rows_silently keep side packets all (keys_of layer.streams) association_ends over refl refl)
 
   lost_tells : (layer : LayerView) → Tells [] [] [] layer.notices (waiting_lost layer).notices
@@ -66,7 +66,7 @@ module _ (keep : SocketsKeepOptions) (side : Side) (packets : List (List ℕ)) (
       layer_moves keep side packets all low old (on_layer channels_ended old)
       (keeping_then [] [] old.layer (streams_lost old.layer) (channels_ended old.layer) lost.keeping
       (keeping_then [] [] (streams_lost old.layer) (waiting_lost (streams_lost old.layer)) (channels_ended old.layer) (lost_keeping (streams_lost old.layer))
-      (same_keeps (waiting_lost (streams_lost old.layer)) (channels_ended old.layer) refl refl refl refl))) refl lost.packets_stay (ended_tells old.layer)
+      (same_keeps (waiting_lost (streams_lost old.layer)) (channels_ended old.layer) refl refl refl refl (λ was. was)))) refl lost.packets_stay (ended_tells old.layer)
       (subst (λ (n : ℕ). low ≤ n) (sym lost.named) (wait_within all low old.layer.waiting old.layer.named wait))
 
   -- ---- an event
@@ -85,11 +85,11 @@ module _ (keep : SocketsKeepOptions) (side : Side) (packets : List (List ℕ)) (
 
   connected_silently : (layer : LayerView) → Silently keep side packets all layer (connection_made layer)
   connected_silently layer =
-      record { packets_stay = refl; waiting = refl; named = refl; keeping = same_keeps layer (connection_made layer) refl refl refl refl; tells = tells_more layer.notices (association_made ∷ []) [] [] refl refl refl }
+      record { packets_stay = refl; waiting = refl; named = refl; keeping = same_keeps layer (connection_made layer) refl refl refl refl (λ was. was); tells = tells_more layer.notices (association_made ∷ []) [] [] refl refl refl }
 
   reported_silently : (number : ℕ) (layer : LayerView) → Silently keep side packets all layer (amount_reported number layer)
   reported_silently number layer =
-      record { packets_stay = refl; waiting = refl; named = refl; keeping = same_keeps layer (amount_reported number layer) refl refl refl refl; tells = lows_held layer.notices (held_stream_numbered layer number) }
+      record { packets_stay = refl; waiting = refl; named = refl; keeping = same_keeps layer (amount_reported number layer) refl refl refl refl (λ was. was); tells = lows_held layer.notices (held_stream_numbered layer number) }
 
   event_moves : (low : ℕ) (event : Event (List ℕ)) (old new : ChannelsView) → HandlesEvent event old new → Wait all low old.layer.waiting old.layer.named
       → Moves keep side packets all [] low [] old [] new

@@ -57,11 +57,11 @@ messages_are e (turn ∷ turns) =
 abbrev pub IsBeforeOnStream : List Sending → ℕ → ℕ → Type 0
 IsBeforeOnStream sent place later = (stream : ℕ) → IsOrderedMessage sent stream place → IsOrderedMessage sent stream later → place < later
 
-rise_each : (sent : List Sending) (places : List ℕ) → ((stream : ℕ) → RiseOn sent stream places) → EachToLater (IsBeforeOnStream sent) places
+pub rise_each : (sent : List Sending) (places : List ℕ) → ((stream : ℕ) → RiseOn sent stream places) → EachToLater (IsBeforeOnStream sent) places
 rise_each sent [] rise = tt
 rise_each sent (place ∷ places) rise = ((λ later has stream one other. (rise stream).0 later has one other), rise_each sent places (λ stream. (rise stream).1))
 
-pub delivered_in_order : (sent : List Sending) (messages read : List MessageContent) → messages ≡ map message_sent sent → IsDeliveredInOrder sent read → DeliveredSo (IsBeforeOnStream sent) messages read
+abbrev pub delivered_in_order : (sent : List Sending) (messages read : List MessageContent) → messages ≡ map message_sent sent → IsDeliveredInOrder sent read → DeliveredSo (IsBeforeOnStream sent) messages read
 delivered_in_order sent messages read same delivered =
     record {
       places = delivered.places;
@@ -70,18 +70,25 @@ delivered_in_order sent messages read same delivered =
       apart = each_other delivered.places delivered.once;
     }
 
--- where all messages are ordered
-pub ordered_at : (sent : List Sending) (place number : ℕ) (m : MessageContent) → AllByRecursion (λ sending. sending.options.unordered ≡ false) sent → slice_get (map message_sent sent) place ≡ Some m → m.stream ≡ number
-    → IsOrderedMessage sent number place
-ordered_at [] place number m all at on = absurd cc
-ordered_at (first ∷ sent) zero number m all at on =
-    let same : first.message ≡ m = cc in record { sending = first; at = refl; on = ap (λ (c : MessageContent). c.stream) same ∙ on; ordered = all.0 }
-ordered_at (first ∷ sent) (suc place) number m all at on =
-    let later = ordered_at sent place number m all.1 at on in record { sending = later.sending; at = later.at; on = later.on; ordered = later.ordered }
+-- Each message of the stream is ordered.
+abbrev pub AreOrderedOn : ℕ → List Sending → Type 0
+AreOrderedOn number sent = AllByRecursion (λ sending. sending.message.stream ≡ number → sending.options.unordered ≡ false) sent
 
-pub leads_in_order : (sent : List Sending) (messages : List MessageContent) (number : ℕ) → messages ≡ map message_sent sent → AllByRecursion (λ sending. sending.options.unordered ≡ false) sent
-    → LeadsOnStream messages number (IsBeforeOnStream sent) IsSaidBefore
-leads_in_order sent messages number same all place other index more m n at there on on_there apart rise stands =
+pub all_ordered_on : (number : ℕ) (sent : List Sending) → AllByRecursion (λ sending. sending.options.unordered ≡ false) sent → AreOrderedOn number sent
+all_ordered_on number [] all = tt
+all_ordered_on number (first ∷ sent) all = ((λ on. all.0), all_ordered_on number sent all.1)
+
+pub ordered_on : (sent : List Sending) (place number : ℕ) (m : MessageContent) → AreOrderedOn number sent → slice_get (map message_sent sent) place ≡ Some m → m.stream ≡ number → IsOrderedMessage sent number place
+ordered_on [] place number m all at on = absurd cc
+ordered_on (first ∷ sent) zero number m all at on =
+    let same : first.message ≡ m = cc in
+    let there : first.message.stream ≡ number = ap (λ (c : MessageContent). c.stream) same ∙ on in
+    record { sending = first; at = refl; on = there; ordered = all.0 there }
+ordered_on (first ∷ sent) (suc place) number m all at on =
+    let later = ordered_on sent place number m all.1 at on in record { sending = later.sending; at = later.at; on = later.on; ordered = later.ordered }
+
+pub leads_on_stream : (sent : List Sending) (messages : List MessageContent) (number : ℕ) → messages ≡ map message_sent sent → AreOrderedOn number sent → LeadsOnStream messages number (IsBeforeOnStream sent) IsSaidBefore
+leads_on_stream sent messages number same all place other index more m n at there on on_there apart rise stands =
     let here : slice_get (map message_sent sent) place ≡ Some m = subst (λ (l : List MessageContent). slice_get l place ≡ Some m) same at in
     let later : slice_get (map message_sent sent) other ≡ Some n = subst (λ (l : List MessageContent). slice_get l other ≡ Some n) same there in
-    rise (stands number (ordered_at sent place number m all here on) (ordered_at sent other number n all later on_there))
+    rise (stands number (ordered_on sent place number m all here on) (ordered_on sent other number n all later on_there))

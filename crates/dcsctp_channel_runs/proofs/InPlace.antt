@@ -46,7 +46,7 @@ said_after name number now (polls notice) there = tt
 -- what is said right now
 pub said_in_place : (pairs : List (ℕ × ℕ)) (start now : LayerView) → KeepStreams pairs start now → (act : EndAct) → AllByRecursion (IsInPlace pairs now) (said_contents act now)
 said_in_place pairs start now keeps (calls (sends_content name content (Ok done))) =
-    (record { orderly = keeps.orderly; keeps = same_keeps now now refl refl refl refl keeps.orderly; placed = λ n number has. inl (keeps.after n number has) }, tt)
+    (record { orderly = keeps.orderly; keeps = same_keeps now now refl refl refl refl (λ was. was) keeps.orderly; placed = λ n number has. inl (keeps.after n number has) }, tt)
 said_in_place pairs start now keeps (calls (sends_content name content (Err error))) = tt
 said_in_place pairs start now keeps (calls (sets_role role)) = tt
 said_in_place pairs start now keeps (calls connects) = tt

@@ -6,12 +6,12 @@ use Rattle.dcsctp_delivery_sockets.specs.sockets.UserMessages.{IsDelivered}
 use Rattle.dcsctp_channel_calls.specs.api.types.queues.Messages.{MessageContent}
 use Rattle.dcsctp_channel_calls.specs.messages.channel_spec.Contents.{ChannelContent, ContentsReadBack}
 use Rattle.dcsctp_channel_runs.specs.Acts.{SaidContent, contents_named, contents_on}
-use Rattle.dcsctp_channel_runs.specs.Opened.{IsSaidApart, WereSaid, WereHeard, HasContent}
-use Rattle.dcsctp_channel_runs.proofs.Said.{SaysContent}
+use Rattle.dcsctp_channel_runs.specs.Opened.{IsSaidApart, WereSaid, WereHeard, HasContent, EachToLater}
+use Rattle.dcsctp_channel_runs.proofs.Heard.{SaysContent, IsPassed}
+use Rattle.dcsctp_channel_runs.proofs.Deeds.{messages_in}
 use Rattle.dcsctp_channel_runs.proofs.Picking.{Picks, picked_before, picked_there, picked_apart, AreOf, Any, picked_rises, chosen_from, AreKeys, keys_stand, DeliveredSo, delivered_once}
 use Rattle.dcsctp_channel_runs.proofs.Streams.{IsOn}
 use Rattle.dcsctp_channel_runs.proofs.MessageKinds.{NoContent, SaysContentOn, IsSaidOn, sent_contents, heard_contents, heard_on_channel, is_content, same_content}
-use Rattle.dcsctp_channel_runs.specs.Opened.{EachToLater}
 use Rattle.dcsctp_channel_runs.proofs.Openers.{EndSaid}
 
 -- ---- what is read on channels
@@ -29,19 +29,19 @@ module _ (pairs : List (ℕ × ℕ)) (Says : MessageContent → ChannelContent �
     pub says : Says m content
     pub is : picked_before sent said picks place ≡ index
 
-  says_back : (place other index more : ℕ) → SaysAs place index → SaysAs other more → index ≡ more → place ≡ other
+  pub says_back : (place other index more : ℕ) → SaysAs place index → SaysAs other more → index ≡ more → place ≡ other
   says_back place other index more one two same = picked_apart sent said picks place other one.m two.m one.at one.kind two.at two.kind (one.is ∙ same ∙ sym two.is)
 
-  says_rise : (place other index more : ℕ) → SaysAs place index → SaysAs other more → place < other → index < more
+  pub says_rise : (place other index more : ℕ) → SaysAs place index → SaysAs other more → place < other → index < more
   says_rise place other index more one two less =
       subst (λ k. k < more) one.is (subst (λ k. picked_before sent said picks place < k) two.is (picked_rises sent said picks place other one.m one.at one.kind less two.m two.at))
 
-  record Indexes (places : List ℕ) (heard : List ChannelContent) : Type 0 where
-    indexes : List ℕ
-    keys : AreKeys SaysAs places indexes
-    were : WereSaid IsFrom said indexes heard
+  pub record Indexes (places : List ℕ) (heard : List ChannelContent) : Type 0 where
+    pub indexes : List ℕ
+    pub keys : AreKeys SaysAs places indexes
+    pub were : WereSaid IsFrom said indexes heard
 
-  indexes_of : (places : List ℕ) (heard : List ChannelContent) → AreOf Says sent places heard → ((place : ℕ) → HasEntry place places → Good place) → Indexes places heard
+  pub indexes_of : (places : List ℕ) (heard : List ChannelContent) → AreOf Says sent places heard → ((place : ℕ) → HasEntry place places → Good place) → Indexes places heard
   indexes_of [] [] are good = record { indexes = []; keys = tt; were = tt }
   indexes_of [] (content ∷ heard) are good = absurd are
   indexes_of (place ∷ places) [] are good = absurd are
@@ -82,11 +82,11 @@ module _ (pairs : List (ℕ × ℕ)) (Says : MessageContent → ChannelContent �
 
 -- ---- both
 
-pub contents_were_heard : ContentsReadBack → (theirs ours : EndSaid) → IsDelivered theirs.sent ours.read → WereHeard IsSaidApart HasContent theirs.says (contents_named ours.heard)
+pub contents_were_heard : ContentsReadBack → (theirs ours : EndSaid) → IsDelivered (messages_in theirs.deeds) ours.read → WereHeard IsSaidApart HasContent theirs.says (contents_named ours.heard)
 contents_were_heard back theirs ours delivered =
-    were_heard theirs.pairs SaysContent (λ m content says. says) HasContent theirs.sent theirs.says (sent_contents theirs.pairs theirs.sent theirs.opens theirs.says theirs.sends) (λ place. Unit {0})
+    were_heard theirs.pairs SaysContent (λ m content says. says) HasContent (messages_in theirs.deeds) theirs.says (sent_contents theirs.pairs theirs.now theirs.start theirs.deeds theirs.opens theirs.says theirs.sends) (λ place. Unit {0})
     (λ m place index one content good here picked at is says. same_content back m one.message.content content is.content says) IsSaidApart IsSaidApart (λ place other index more one two apart rise stands same. stands (apart same)) (λ place. tt)
-    ours.read (contents_named ours.heard) (delivered_once theirs.sent ours.read delivered) (heard_contents ours.pairs ours.read ours.incoming ours.heard ours.hears)
+    ours.read (contents_named ours.heard) (delivered_once (messages_in theirs.deeds) ours.read delivered) (heard_contents ours.pairs (IsPassed ours.from ours.turns) ours.now ours.start ours.read ours.incoming ours.heard ours.hears)
 
 -- What is so of two places of messages of a stream is so of the two contents.
 abbrev pub LeadsOnStream : List MessageContent → ℕ → (ℕ → ℕ → Type 0) → (ℕ → ℕ → Type 0) → Type 0
@@ -98,7 +98,7 @@ LeadsOnStream sent number Stand Then =
 module _ (back : ContentsReadBack) (theirs ours : EndSaid) (here number : ℕ) (on : HasEntry (here, number) ours.pairs) (IsFrom : SaidContent → ChannelContent → Type 0)
     (is_from : (index : ℕ) (one : SaidContent) (content : ChannelContent) → slice_get theirs.says index ≡ Some one → one.message.content ≡ content → HasEntry {A = ℕ × ℕ} (one.message.name, number) theirs.pairs
     → IsOn one.after one.message.name number → IsFrom one content)
-    (Stand Then : ℕ → ℕ → Type 0) (leads : LeadsOnStream theirs.sent number Stand Then) where
+    (Stand Then : ℕ → ℕ → Type 0) (leads : LeadsOnStream (messages_in theirs.deeds) number Stand Then) where
   same_number : (m : MessageContent) (content : ChannelContent) → SaysContentOn ours.pairs here m content → m.stream ≡ number
   same_number m content says = ours.one here m.stream number says.1 on
 
@@ -108,9 +108,9 @@ module _ (back : ContentsReadBack) (theirs ours : EndSaid) (here number : ℕ) (
       is_from index one content at (same_content back m one.message.content content is.content says.0) (subst (λ (k : ℕ). HasEntry {A = ℕ × ℕ} (one.message.name, k) theirs.pairs) same is.noted)
       (subst (λ (k : ℕ). IsOn one.after one.message.name k) same is.on)
 
-  pub channel_was_heard : DeliveredSo Stand theirs.sent ours.read → WereHeard Then IsFrom theirs.says (contents_on here ours.heard)
+  pub channel_was_heard : DeliveredSo Stand (messages_in theirs.deeds) ours.read → WereHeard Then IsFrom theirs.says (contents_on here ours.heard)
   channel_was_heard delivered =
-      were_heard theirs.pairs (SaysContentOn ours.pairs here) (λ m content says. says.0) IsFrom theirs.sent theirs.says (sent_contents theirs.pairs theirs.sent theirs.opens theirs.says theirs.sends) (λ place. Unit {0})
+      were_heard theirs.pairs (SaysContentOn ours.pairs here) (λ m content says. says.0) IsFrom (messages_in theirs.deeds) theirs.says (sent_contents theirs.pairs theirs.now theirs.start theirs.deeds theirs.opens theirs.says theirs.sends) (λ place. Unit {0})
       (λ m place index one content good there picked at is says. from_it m index one content at is says) Stand Then
       (λ place other index more one two apart rise stands. leads place other index more one.m two.m one.at two.at (same_number one.m one.content one.says) (same_number two.m two.content two.says) apart rise stands) (λ place. tt)
-      ours.read (contents_on here ours.heard) delivered (heard_on_channel ours.pairs here ours.read ours.incoming ours.heard ours.hears)
+      ours.read (contents_on here ours.heard) delivered (heard_on_channel ours.pairs (IsPassed ours.from ours.turns) ours.now here ours.start ours.read ours.incoming ours.heard ours.hears)

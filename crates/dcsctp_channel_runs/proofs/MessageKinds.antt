@@ -8,7 +8,12 @@ use Rattle.dcsctp_channel_calls.specs.messages.channel_spec.Contents.{ChannelCon
 use Rattle.dcsctp_channel_calls.specs.messages.Format.{open_message, acknowledgement, ack_bytes, open_bytes, control_of_bytes}
 use Rattle.dcsctp_channel_calls.specs.messages.Laws.{OpensReadBack}
 use Rattle.dcsctp_channel_runs.specs.Acts.{OpenedChannel, NamedContent, SaidContent, contents_named, contents_on}
-use Rattle.dcsctp_channel_runs.proofs.Said.{IsAck, IsOpen, IsContent, IsNoted, Sent, none_sent, an_ack, an_open, a_content, SaysOpen, SaysContent, Heard, none_heard, a_dropped, a_channel, a_message}
+use Rattle.dcsctp_channel_runs.proofs.Said.{IsAck, IsOpen, IsContent, IsNoted}
+use Rattle.dcsctp_channel_runs.proofs.Heard.{SaysOpen, SaysContent, Heard, none_heard, a_dropped, a_channel, a_message}
+use Rattle.dcsctp_channel_calls.specs.api.spec.endpoint.Endpoint.{Endpoint}
+use Rattle.dcsctp_channel_calls.specs.View.{LayerView}
+use Rattle.dcsctp_channel_runs.proofs.Deeds.{Deed, messages_in}
+use Rattle.dcsctp_channel_runs.proofs.SentBy.{Sent, none_sent, an_ack, an_open, a_content, an_ask}
 use Rattle.dcsctp_channel_runs.proofs.Picking.{Picks, none_picked, passed, picked, Any}
 use Rattle.dcsctp_channel_runs.proofs.Streams.{IsOn}
 
@@ -34,41 +39,50 @@ pub record IsSaidOn (pairs : List (ℕ × ℕ)) (m : MessageContent) (said : Sai
   pub noted : IsNoted pairs said.message.name m
   pub on : IsOn said.after said.message.name m.stream
 
-unfoldable pub sent_opens : (ps : List (ℕ × ℕ)) (sent : List MessageContent) (opens : List OpenedChannel) (says : List SaidContent) → Sent ps sent opens says → Picks (IsOpenOn ps) NoOpen sent opens
-sent_opens ps _ _ _ none_sent = none_picked
-sent_opens ps _ _ _ (an_ack m sent opens says is rest) = passed m sent opens (inl is) (sent_opens ps sent opens says rest)
-sent_opens ps _ _ _ (an_open m channel sent opens says is noted after rest) = picked m channel sent opens (is, noted) (sent_opens ps sent opens says rest)
-sent_opens ps _ _ _ (a_content m said sent opens says is noted on rest) = passed m sent opens (inr (said.message.content, is)) (sent_opens ps sent opens says rest)
+unfoldable pub sent_opens : (ps : List (ℕ × ℕ)) (now old : LayerView) (deeds : List Deed) (opens : List OpenedChannel) (says : List SaidContent) → Sent ps now old deeds opens says → Picks (IsOpenOn ps) NoOpen (messages_in deeds) opens
+sent_opens ps now _ _ _ _ (none_sent old keeps) = none_picked
+sent_opens ps now _ _ _ _ (an_ack old after one deeds opens says keeps is plain rest) = passed one.message (messages_in deeds) opens (inl is) (sent_opens ps now after deeds opens says rest)
+sent_opens ps now _ _ _ _ (an_open old after one channel deeds opens says keeps is plain come noted later rules rest) =
+    picked one.message channel (messages_in deeds) opens (is, noted) (sent_opens ps now after deeds opens says rest)
+sent_opens ps now _ _ _ _ (a_content old one said deeds opens says keeps is noted rules rest) =
+    passed one.message (messages_in deeds) opens (inr (said.message.content, is)) (sent_opens ps now said.after deeds opens says rest)
+sent_opens ps now _ _ _ _ (an_ask old after ids deeds opens says keeps closing rest) = sent_opens ps now after deeds opens says rest
 
-unfoldable pub sent_contents : (ps : List (ℕ × ℕ)) (sent : List MessageContent) (opens : List OpenedChannel) (says : List SaidContent) → Sent ps sent opens says → Picks (IsSaidOn ps) NoContent sent says
-sent_contents ps _ _ _ none_sent = none_picked
-sent_contents ps _ _ _ (an_ack m sent opens says is rest) = passed m sent says is.ppid (sent_contents ps sent opens says rest)
-sent_contents ps _ _ _ (an_open m channel sent opens says is noted after rest) = passed m sent says is.ppid (sent_contents ps sent opens says rest)
-sent_contents ps _ _ _ (a_content m said sent opens says is noted on rest) = picked m said sent says (record { content = is; noted = noted; on = on }) (sent_contents ps sent opens says rest)
+unfoldable pub sent_contents : (ps : List (ℕ × ℕ)) (now old : LayerView) (deeds : List Deed) (opens : List OpenedChannel) (says : List SaidContent) → Sent ps now old deeds opens says
+    → Picks (IsSaidOn ps) NoContent (messages_in deeds) says
+sent_contents ps now _ _ _ _ (none_sent old keeps) = none_picked
+sent_contents ps now _ _ _ _ (an_ack old after one deeds opens says keeps is plain rest) = passed one.message (messages_in deeds) says is.ppid (sent_contents ps now after deeds opens says rest)
+sent_contents ps now _ _ _ _ (an_open old after one channel deeds opens says keeps is plain come noted later rules rest) =
+    passed one.message (messages_in deeds) says is.ppid (sent_contents ps now after deeds opens says rest)
+sent_contents ps now _ _ _ _ (a_content old one said deeds opens says keeps is noted rules rest) =
+    picked one.message said (messages_in deeds) says (record { content = is; noted = noted; on = rules.on }) (sent_contents ps now said.after deeds opens says rest)
+sent_contents ps now _ _ _ _ (an_ask old after ids deeds opens says keeps closing rest) = sent_contents ps now after deeds opens says rest
 
-pub heard_channels : (ps : List (ℕ × ℕ)) (read : List MessageContent) (channels : List OpenedChannel) (contents : List NamedContent) → Heard ps read channels contents → Picks (SaysOpenOn ps) Any read channels
-heard_channels ps _ _ _ none_heard = none_picked
-heard_channels ps _ _ _ (a_dropped m read channels contents rest) = passed m read channels tt (heard_channels ps read channels contents rest)
-heard_channels ps _ _ _ (a_channel m channel read channels contents is noted rest) = picked m channel read channels (is, noted) (heard_channels ps read channels contents rest)
-heard_channels ps _ _ _ (a_message m named read channels contents is noted others_else rest) = passed m read channels tt (heard_channels ps read channels contents rest)
+module _ (ps : List (ℕ × ℕ)) (Passed : Endpoint → Type 0) (now : LayerView) where
+  pub heard_channels : (old : LayerView) (read : List MessageContent) (channels : List OpenedChannel) (contents : List NamedContent) → Heard ps Passed now old read channels contents → Picks (SaysOpenOn ps) Any read channels
+  heard_channels _ _ _ _ (none_heard old keeps) = none_picked
+  heard_channels _ _ _ _ (a_dropped old after m read channels contents keeps why rest) = passed m read channels tt (heard_channels after read channels contents rest)
+  heard_channels _ _ _ _ (a_channel old after m channel read channels contents keeps is noted on rest) = picked m channel read channels (is, noted) (heard_channels after read channels contents rest)
+  heard_channels _ _ _ _ (a_message old after m named read channels contents keeps is noted others_else open_there rest) = passed m read channels tt (heard_channels after read channels contents rest)
 
-pub heard_contents : (ps : List (ℕ × ℕ)) (read : List MessageContent) (channels : List OpenedChannel) (contents : List NamedContent) → Heard ps read channels contents → Picks SaysContent Any read (contents_named contents)
-heard_contents ps _ _ _ none_heard = none_picked
-heard_contents ps _ _ _ (a_dropped m read channels contents rest) = passed m read (contents_named contents) tt (heard_contents ps read channels contents rest)
-heard_contents ps _ _ _ (a_channel m channel read channels contents is noted rest) = passed m read (contents_named contents) tt (heard_contents ps read channels contents rest)
-heard_contents ps _ _ _ (a_message m named read channels contents is noted others_else rest) = picked m named.content read (contents_named contents) is (heard_contents ps read channels contents rest)
+  pub heard_contents : (old : LayerView) (read : List MessageContent) (channels : List OpenedChannel) (contents : List NamedContent) → Heard ps Passed now old read channels contents → Picks SaysContent Any read (contents_named contents)
+  heard_contents _ _ _ _ (none_heard old keeps) = none_picked
+  heard_contents _ _ _ _ (a_dropped old after m read channels contents keeps why rest) = passed m read (contents_named contents) tt (heard_contents after read channels contents rest)
+  heard_contents _ _ _ _ (a_channel old after m channel read channels contents keeps is noted on rest) = passed m read (contents_named contents) tt (heard_contents after read channels contents rest)
+  heard_contents _ _ _ _ (a_message old after m named read channels contents keeps is noted others_else open_there rest) =
+      picked m named.content read (contents_named contents) is (heard_contents after read channels contents rest)
 
-pub heard_on_channel : (ps : List (ℕ × ℕ)) (name : ℕ) (read : List MessageContent) (channels : List OpenedChannel) (contents : List NamedContent) → Heard ps read channels contents
-    → Picks (SaysContentOn ps name) Any read (contents_on name contents)
-heard_on_channel ps name _ _ _ none_heard = none_picked
-heard_on_channel ps name _ _ _ (a_dropped m read channels contents rest) = passed m read (contents_on name contents) tt (heard_on_channel ps name read channels contents rest)
-heard_on_channel ps name _ _ _ (a_channel m channel read channels contents is noted rest) = passed m read (contents_on name contents) tt (heard_on_channel ps name read channels contents rest)
-heard_on_channel ps name _ _ _ (a_message m named read channels contents is noted others_else rest) = by (named.name == name) refl (heard_on_channel ps name read channels contents rest)
-  where
-    by : (b : Bool) → (named.name == name) ≡ b → Picks (SaysContentOn ps name) Any read (contents_on name contents)
-        → Picks (SaysContentOn ps name) Any (m ∷ read) (if b then named.content ∷ contents_on name contents else contents_on name contents)
-    by true same others = picked m named.content read (contents_on name contents) (is, subst (λ n. IsNoted ps n m) (eqb-true named.name name same) noted) others
-    by false apart others = passed m read (contents_on name contents) tt others
+  pub heard_on_channel : (name : ℕ) (old : LayerView) (read : List MessageContent) (channels : List OpenedChannel) (contents : List NamedContent) → Heard ps Passed now old read channels contents
+      → Picks (SaysContentOn ps name) Any read (contents_on name contents)
+  heard_on_channel name _ _ _ _ (none_heard old keeps) = none_picked
+  heard_on_channel name _ _ _ _ (a_dropped old after m read channels contents keeps why rest) = passed m read (contents_on name contents) tt (heard_on_channel name after read channels contents rest)
+  heard_on_channel name _ _ _ _ (a_channel old after m channel read channels contents keeps is noted on rest) = passed m read (contents_on name contents) tt (heard_on_channel name after read channels contents rest)
+  heard_on_channel name _ _ _ _ (a_message old after m named read channels contents keeps is noted others_else open_there rest) = by (named.name == name) refl (heard_on_channel name after read channels contents rest)
+    where
+      by : (b : Bool) → (named.name == name) ≡ b → Picks (SaysContentOn ps name) Any read (contents_on name contents)
+          → Picks (SaysContentOn ps name) Any (m ∷ read) (if b then named.content ∷ contents_on name contents else contents_on name contents)
+      by true same others = picked m named.content read (contents_on name contents) (is, subst (λ n. IsNoted ps n m) (eqb-true named.name name same) noted) others
+      by false apart others = passed m read (contents_on name contents) tt others
 
 -- an ACK isn't read as an OPEN
 pub ack_is_read : control_of_bytes ack_bytes ≡ Ok acknowledgement

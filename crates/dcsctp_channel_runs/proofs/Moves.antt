@@ -1,25 +1,31 @@
 -- What an end does between two moments: acts of its socket, what they emit, what is sent and read, and what its user is told.
-use Rattle.std.proofs.Common.{◌≡◌, ℕ, List, [], ◌∷◌, ◌++◌, map, refl, sym, ap, subst, ◌∙◌, append_assoc}
+use Rattle.std.proofs.Common.{◌≡◌, ℕ, true, List, [], ◌++◌, refl, sym, ap, subst, ◌∙◌, append_assoc}
 use Rattle.std.proofs.lemmas.List.{append-nil}
 use Rattle.dcsctp_spec_runs.specs.Laws.{SocketsKeepOptions}
 use Rattle.dcsctp_spec_runs.specs.Sockets.{PerformedAct}
-use Rattle.dcsctp_delivery_sockets.specs.sockets.UserMessages.{messages_of_turns, read_of}
-use Rattle.dcsctp_channel_calls.specs.api.Calls.{UserView, user_event}
+use Rattle.dcsctp_delivery_sockets.specs.sockets.UserMessages.{read_of}
+use Rattle.dcsctp_channel_calls.specs.api.Calls.{UserView}
 use Rattle.dcsctp_channel_calls.specs.api.types.declared.schedule.Side.{Side}
 use Rattle.dcsctp_channel_calls.specs.api.types.Settings.{Ports, ports_of}
 use Rattle.dcsctp_channel_calls.specs.api.types.queues.Messages.{MessageContent}
-use Rattle.dcsctp_channel_calls.specs.api.spec.endpoint.CallTurns.{Transition, after_all, events_of}
+use Rattle.dcsctp_channel_calls.specs.api.spec.endpoint.CallTurns.{Transition, after_all}
 use Rattle.dcsctp_channel_calls.specs.api.spec.endpoint.Endpoint.{Endpoint}
-use Rattle.dcsctp_channel_calls.specs.api.spec.endpoint.Event.{Event, packets_of_events}
+use Rattle.dcsctp_channel_calls.specs.api.spec.endpoint.Event.{packets_of_events}
 use Rattle.dcsctp_channel_calls.specs.View.{WaitingChannel, ChannelNotice, LayerView, ChannelsView}
 use Rattle.dcsctp_channel_laws.specs.Lives.{IsOrderly}
 use Rattle.dcsctp_channel_runs.specs.Acts.{OpenedChannel, NamedContent, SaidContent, packets_given}
-use Rattle.dcsctp_channel_runs.proofs.Said.{Sent, none_sent, sent_then, Heard, none_heard, heard_then, Wait, Rise, rise_then, same_le, all_both}
-use Rattle.dcsctp_channel_runs.proofs.Streams.{Keeping, keeping_then, same_keeps, IsToCome}
-use Rattle.dcsctp_channel_runs.proofs.Paths.{IsStepAt, IsPath, turns_on, turns_on-append, path_then, packets_by, packets_by-append, sent-append, read-append, after-append, ports_stay}
-use Rattle.dcsctp_theorem_sockets.proofs.Bursts.{packets_of_events-append}
+use Rattle.dcsctp_channel_runs.proofs.Deeds.{Deed, deeds_of_turns, deeds-append}
+use Rattle.dcsctp_channel_runs.proofs.SentBy.{Sent, none_sent, sent_then}
+use Rattle.dcsctp_channel_runs.proofs.Heard.{Heard, none_heard, heard_then, IsPassed, passed_before, passed_behind}
+use Rattle.dcsctp_channel_runs.proofs.Said.{Wait, Rise, rise_then, same_le, all_both}
+use Rattle.dcsctp_channel_runs.proofs.Streams.{Keeping, keep_plain, keeping_then, same_keeps, IsToCome}
+use Rattle.dcsctp_channel_runs.proofs.Paths.{IsPath, turns_on, turns_on-append, path_then, packets_by, packets_by-append, read-append, after-append, ports_stay}
 use Rattle.dcsctp_channel_runs.proofs.Notices.{Tells, tells_nothing, tells_then, packets_left}
 use Rattle.dcsctp_channel_runs.proofs.Coming.{AreToCome, come_before, come_else}
+
+-- nothing is read
+pub hears_nothing : {pairs : List (ℕ × ℕ)} (noted : List (ℕ × ℕ)) (Passed : Endpoint → Type 0) (old new : LayerView) → Keeping pairs old new → IsOrderly old → Heard noted Passed new old [] [] []
+hears_nothing noted Passed old new keeping orderly = none_heard old (keep_plain (keeping orderly))
 
 module _ (keep : SocketsKeepOptions) (side : Side) (packets : List (List ℕ)) (all : List OpenedChannel) where
   -- Acts of the socket lead from the one view to the other, and emit these packets. The messages that they send are ACKs, OPENs of
@@ -34,7 +40,7 @@ module _ (keep : SocketsKeepOptions) (side : Side) (packets : List (List ℕ)) (
     pub pairs : List (ℕ × ℕ)
     pub keeping : Keeping pairs old.layer new.layer
     pub opens : List OpenedChannel
-    pub sent : Sent pairs (messages_of_turns old.below.endpoint turns) opens says
+    pub sent : IsOrderly old.layer → Sent pairs new.layer old.layer (deeds_of_turns old.below.endpoint turns) opens says
     pub high : ℕ
     pub rises : Rise all low opens high
 
@@ -44,7 +50,7 @@ module _ (keep : SocketsKeepOptions) (side : Side) (packets : List (List ℕ)) (
     pub waits : Wait all steps.high new.layer.waiting new.layer.named
     pub channels : List OpenedChannel
     pub contents : List NamedContent
-    pub heard : IsOrderly old.layer → Heard steps.pairs (pending ++ read_of old.below.endpoint steps.turns) channels contents
+    pub heard : IsOrderly old.layer → Heard steps.pairs (IsPassed old.below.endpoint steps.turns) new.layer old.layer (pending ++ read_of old.below.endpoint steps.turns) channels contents
     pub come : AreToCome old.layer channels
     pub tells : Tells taken channels contents old.layer.notices new.layer.notices
 
@@ -70,9 +76,11 @@ module _ (keep : SocketsKeepOptions) (side : Side) (packets : List (List ℕ)) (
         pairs = first.pairs ++ second.pairs;
         keeping = keeping_then first.pairs second.pairs a.layer b.layer c.layer first.keeping second.keeping;
         opens = first.opens ++ second.opens;
-        sent = subst (λ (l : List MessageContent). Sent (first.pairs ++ second.pairs) l (first.opens ++ second.opens) [])
-            (ap (λ (f : Endpoint). messages_of_turns e first.turns ++ messages_of_turns f second.turns) first.endpoint ∙ sym (sent-append e first.turns second.turns))
-            (sent_then first.pairs second.pairs (messages_of_turns e first.turns) (messages_of_turns b.below.endpoint second.turns) first.opens second.opens [] [] (λ name number has. tt) first.sent second.sent);
+        sent = λ orderly.
+            subst (λ (l : List Deed). Sent (first.pairs ++ second.pairs) c.layer a.layer l (first.opens ++ second.opens) [])
+            (ap (λ (f : Endpoint). deeds_of_turns e first.turns ++ deeds_of_turns f second.turns) first.endpoint ∙ sym (deeds-append e first.turns second.turns))
+            (sent_then first.pairs second.pairs a.layer b.layer c.layer (deeds_of_turns e first.turns) (deeds_of_turns b.below.endpoint second.turns) first.opens second.opens [] [] (λ name number has. tt)
+            (first.sent orderly) (second.sent (first.keeping orderly).orderly));
         high = second.high;
         rises = rise_then all low first.high second.high first.opens second.opens first.rises second.rises;
       }
@@ -94,9 +102,12 @@ module _ (keep : SocketsKeepOptions) (side : Side) (packets : List (List ℕ)) (
         contents = first.contents ++ second.contents;
         heard = λ a_orderly.
             let keeps = first.steps.keeping a_orderly in
-            subst (λ (l : List MessageContent). Heard (first.steps.pairs ++ second.steps.pairs) l (first.channels ++ second.channels) (first.contents ++ second.contents))
+            subst (λ (l : List MessageContent). Heard (first.steps.pairs ++ second.steps.pairs) (IsPassed a.below.endpoint (first.steps.turns ++ second.steps.turns)) c.layer a.layer l (first.channels ++ second.channels) (first.contents ++ second.contents))
             (append_assoc pending read more ∙ ap (λ (l : List MessageContent). pending ++ l) (read_then low a b second.steps.turns first.steps))
-            (heard_then first.steps.pairs second.steps.pairs (pending ++ read) more first.channels second.channels first.contents second.contents
+            (heard_then first.steps.pairs second.steps.pairs (IsPassed a.below.endpoint first.steps.turns) (IsPassed b.below.endpoint second.steps.turns) (IsPassed a.below.endpoint (first.steps.turns ++ second.steps.turns)) a.layer b.layer c.layer
+            (pending ++ read) more first.channels second.channels first.contents second.contents
+            (passed_before a.below.endpoint first.steps.turns second.steps.turns)
+            (λ e. passed_behind a.below.endpoint b.below.endpoint first.steps.turns second.steps.turns e first.steps.endpoint)
             (λ name number has. come_else b.layer name number (keeps.after name number has) second.channels (second.come keeps.orderly)) (first.heard a_orderly) (second.heard keeps.orderly));
         come = λ a_orderly.
             let keeps = first.steps.keeping a_orderly in
@@ -117,10 +128,13 @@ module _ (keep : SocketsKeepOptions) (side : Side) (packets : List (List ℕ)) (
         contents = second.contents;
         heard = λ a_orderly.
             let keeps = first.keeping a_orderly in
-            subst (λ (l : List MessageContent). Heard (first.pairs ++ second.steps.pairs) l second.channels second.contents)
+            subst (λ (l : List MessageContent). Heard (first.pairs ++ second.steps.pairs) (IsPassed a.below.endpoint (first.turns ++ second.steps.turns)) c.layer a.layer l second.channels second.contents)
             (ap (λ (l : List MessageContent). l ++ read_of b.below.endpoint second.steps.turns) (sym is) ∙ read_then low a b second.steps.turns first)
-            (heard_then first.pairs second.steps.pairs [] (read ++ read_of b.below.endpoint second.steps.turns) [] second.channels [] second.contents
-            (λ name number has. come_else b.layer name number (keeps.after name number has) second.channels (second.come keeps.orderly)) none_heard (second.heard keeps.orderly));
+            (heard_then first.pairs second.steps.pairs (IsPassed a.below.endpoint first.turns) (IsPassed b.below.endpoint second.steps.turns) (IsPassed a.below.endpoint (first.turns ++ second.steps.turns)) a.layer b.layer c.layer
+            [] (read ++ read_of b.below.endpoint second.steps.turns) [] second.channels [] second.contents
+            (passed_before a.below.endpoint first.turns second.steps.turns)
+            (λ e. passed_behind a.below.endpoint b.below.endpoint first.turns second.steps.turns e first.endpoint)
+            (λ name number has. come_else b.layer name number (keeps.after name number has) second.channels (second.come keeps.orderly)) (none_heard a.layer (keep_plain keeps)) (second.heard keeps.orderly));
         come = λ a_orderly. let keeps = first.keeping a_orderly in come_before first.pairs a.layer b.layer keeps second.channels (second.come keeps.orderly);
         tells = subst (λ (l : List ChannelNotice). Tells [] second.channels second.contents l c.layer.notices) same second.tells;
       }
@@ -129,7 +143,7 @@ module _ (keep : SocketsKeepOptions) (side : Side) (packets : List (List ℕ)) (
 
   pub unmoved : (pending : List MessageContent) (low : ℕ) (old : ChannelsView) (taken : List ChannelNotice) (new : ChannelsView) (channels : List OpenedChannel) (contents : List NamedContent)
       (pairs : List (ℕ × ℕ)) → Keeping pairs old.layer new.layer → AreToCome old.layer channels → new.below.endpoint ≡ old.below.endpoint → packets_given taken ++ packets_left new ≡ packets_left old → Wait all low new.layer.waiting new.layer.named
-      → Heard pairs pending channels contents → Tells taken channels contents old.layer.notices new.layer.notices → Moves pending low [] old taken new
+      → (IsOrderly old.layer → Heard pairs (IsPassed old.below.endpoint []) new.layer old.layer pending channels contents) → Tells taken channels contents old.layer.notices new.layer.notices → Moves pending low [] old taken new
   unmoved pending low old taken new channels contents pairs keeping come endpoint left waits heard tells =
       record {
         steps = record {
@@ -142,14 +156,14 @@ module _ (keep : SocketsKeepOptions) (side : Side) (packets : List (List ℕ)) (
           pairs = pairs;
           keeping = keeping;
           opens = [];
-          sent = none_sent;
+          sent = λ orderly. none_sent old.layer (keep_plain (keeping orderly));
           high = low;
           rises = same_le low;
         };
         waits = waits;
         channels = channels;
         contents = contents;
-        heard = λ orderly. subst (λ (l : List MessageContent). Heard pairs l channels contents) (sym (append-nil pending)) heard;
+        heard = λ orderly. subst (λ (l : List MessageContent). Heard pairs (IsPassed old.below.endpoint []) new.layer old.layer l channels contents) (sym (append-nil pending)) (heard orderly);
         come = come;
         tells = tells;
       }
@@ -163,13 +177,13 @@ module _ (keep : SocketsKeepOptions) (side : Side) (packets : List (List ℕ)) (
     pub tells : Tells [] [] [] old.notices new.notices
 
   pub silently_same : (old new : LayerView) → new.packets ≡ old.packets → new.streams ≡ old.streams → new.names ≡ old.names → new.waiting ≡ old.waiting → new.named ≡ old.named → new.notices ≡ old.notices
-      → Silently old new
-  silently_same old new left streams names waiting named same =
+      → (old.over ≡ true → new.over ≡ true) → Silently old new
+  silently_same old new left streams names waiting named same over =
       record {
         packets_stay = left;
         waiting = waiting;
         named = named;
-        keeping = same_keeps old new streams names waiting named;
+        keeping = same_keeps old new streams names waiting named over;
         tells = subst (λ (l : List ChannelNotice). Tells [] [] [] old.notices l) (sym same) (tells_nothing old.notices);
       }
 
@@ -189,7 +203,7 @@ module _ (keep : SocketsKeepOptions) (side : Side) (packets : List (List ℕ)) (
   layer_moves low old new keeping below left tells waits =
       unmoved [] low old [] new [] [] [] keeping (λ orderly. tt) (ap (λ (u : UserView). u.endpoint) below)
       (ap (λ (u : UserView). new.layer.packets ++ packets_of_events u.events) below ∙ ap (λ (l : List (List ℕ)). l ++ packets_of_events old.below.events) left)
-      waits none_heard tells
+      waits (hears_nothing [] (IsPassed old.below.endpoint []) old.layer new.layer keeping) tells
 
   pub silent_moves : (low : ℕ) (old new : ChannelsView) → new.below ≡ old.below → Silently old.layer new.layer → Wait all low old.layer.waiting old.layer.named → Moves [] low [] old [] new
   silent_moves low old new below silently waits =
@@ -198,52 +212,4 @@ module _ (keep : SocketsKeepOptions) (side : Side) (packets : List (List ℕ)) (
 
   pub stays : (low : ℕ) (old new : ChannelsView) → new ≡ old → Wait all low old.layer.waiting old.layer.named → Moves [] low [] old [] new
   stays low old new is waits =
-      subst (λ (v : ChannelsView). Moves [] low [] old [] v) (sym is) (layer_moves low old old (same_keeps old.layer old.layer refl refl refl refl) refl refl (tells_nothing old.layer.notices) waits)
-
-  -- ---- one step of the socket
-
-  -- what it makes of the socket below
-  pub record StepsSocket (worked : PerformedAct) (old below : UserView) : Type 0 where
-    pub step : IsStepAt side packets old.endpoint worked
-    pub endpoint : below.endpoint ≡ after_all old.endpoint worked.turns
-    pub events : below.events ≡ old.events ++ map (user_event (ports_of old.endpoint.options)) (events_of worked.turns)
-
-  abbrev pub socket_steps : (low high : ℕ) (worked : PerformedAct) (opens : List OpenedChannel) (says : List SaidContent) (pairs : List (ℕ × ℕ)) (old new : ChannelsView)
-      → StepsSocket worked old.below new.below → Keeping pairs old.layer new.layer → new.layer.packets ≡ old.layer.packets → Sent pairs (messages_of_turns old.below.endpoint worked.turns) opens says → Rise all low opens high
-      → Steps low says old [] new
-  socket_steps low high worked opens says pairs old new made keeping left sent rises =
-      let ports : Ports = ports_of old.below.endpoint.options in
-      let more : List (List ℕ) = packets_by ports worked.turns in
-      record {
-        path = worked ∷ [];
-        turns = worked.turns;
-        turns_are = append-nil worked.turns;
-        is_path = (made.step, tt);
-        endpoint = made.endpoint;
-        emits = ap (λ (l : List (List ℕ)). l ++ packets_of_events new.below.events) left
-            ∙ ap (λ (l : List (Event (List ℕ))). old.layer.packets ++ packets_of_events l) made.events
-            ∙ ap (λ (l : List (List ℕ)). old.layer.packets ++ l) (packets_of_events-append old.below.events (map (user_event ports) (events_of worked.turns)))
-            ∙ sym (append_assoc old.layer.packets (packets_of_events old.below.events) more);
-        pairs = pairs;
-        keeping = keeping;
-        opens = opens;
-        sent = sent;
-        high = high;
-        rises = rises;
-      }
-
-  -- It reads nothing.
-  pub socket_moves : (low high : ℕ) (worked : PerformedAct) (opens : List OpenedChannel) (says : List SaidContent) (pairs : List (ℕ × ℕ)) (old new : ChannelsView)
-      → StepsSocket worked old.below new.below → Keeping pairs old.layer new.layer → new.layer.packets ≡ old.layer.packets → Sent pairs (messages_of_turns old.below.endpoint worked.turns) opens says → Rise all low opens high
-      → read_of old.below.endpoint worked.turns ≡ [] → Wait all high new.layer.waiting new.layer.named → Tells [] [] [] old.layer.notices new.layer.notices
-      → Moves [] low says old [] new
-  socket_moves low high worked opens says pairs old new made keeping left sent rises none waits tells =
-      record {
-        steps = socket_steps low high worked opens says pairs old new made keeping left sent rises;
-        waits = waits;
-        channels = [];
-        contents = [];
-        heard = λ orderly. subst (λ (l : List MessageContent). Heard pairs l [] []) (sym none) none_heard;
-        come = λ orderly. tt;
-        tells = tells;
-      }
+      subst (λ (v : ChannelsView). Moves [] low [] old [] v) (sym is) (layer_moves low old old (same_keeps old.layer old.layer refl refl refl refl (λ was. was)) refl refl (tells_nothing old.layer.notices) waits)

@@ -73,6 +73,24 @@ picked_rises _ _ (picked x item messages items is rest) (suc place) zero m at ki
 picked_rises _ _ (picked x item messages items is rest) (suc place) (suc other) m at kind less n there =
     let more : picked_before messages items rest place < picked_before messages items rest other = picked_rises messages items rest place other m at kind (omega arith) n there in omega arith
 
+-- Each item that was picked is of a message, at its place.
+pub record IsPickedFrom {A : Type 0} (P : MessageContent → A → Type 0) (messages : List MessageContent) (item : A) (index : ℕ) (before : ℕ → ℕ) : Type 0 where
+  pub place : ℕ
+  pub m : MessageContent
+  pub at : slice_get messages place ≡ Some m
+  pub of : P m item
+  pub is : before place ≡ index
+
+pub picked_from : {A : Type 0} {P : MessageContent → A → Type 0} {No : MessageContent → Type 0} (messages : List MessageContent) (items : List A) (picks : Picks P No messages items) (index : ℕ) (item : A)
+    → slice_get items index ≡ Some item → IsPickedFrom P messages item index (picked_before messages items picks)
+unfolding picked_before
+picked_from _ _ none_picked index item at = absurd cc
+picked_from _ _ (passed m messages items skips rest) index item at =
+    let found = picked_from messages items rest index item at in record { place = suc found.place; m = found.m; at = found.at; of = found.of; is = found.is }
+picked_from {P = P} _ _ (picked m first messages items is rest) zero item at = let same : first ≡ item = cc in record { place = 0; m = m; at = refl; of = subst (λ x. P m x) same is; is = refl }
+picked_from _ _ (picked m first messages items is rest) (suc index) item at =
+    let found = picked_from messages items rest index item at in record { place = suc found.place; m = found.m; at = found.at; of = found.of; is = ap suc found.is }
+
 -- ---- what was read, by the places of what was sent
 
 -- Each item is of a message that was sent at this place.
@@ -128,6 +146,20 @@ place_of_key Key [] (first ∷ keys) key are has = absurd are
 place_of_key Key (place ∷ places) [] key are has = absurd has
 place_of_key Key (place ∷ places) (first ∷ keys) key are (inl is) = (place, inl refl, subst (λ k. Key place k) (sym is) are.0)
 place_of_key Key (place ∷ places) (first ∷ keys) key are (inr has) = let later = place_of_key Key places keys key are.1 has in (later.0, inr later.1, later.2)
+
+pub key_of_place : (Key : ℕ → ℕ → Type 0) (places keys : List ℕ) (place : ℕ) → AreKeys Key places keys → HasEntry place places → (key : ℕ) × HasEntry key keys × Key place key
+key_of_place Key [] [] place are has = absurd has
+key_of_place Key [] (key ∷ keys) place are has = absurd has
+key_of_place Key (first ∷ places) [] place are has = absurd are
+key_of_place Key (first ∷ places) (key ∷ keys) place are (inl is) = (key, inl refl, subst (λ p. Key p key) (sym is) are.0)
+key_of_place Key (first ∷ places) (key ∷ keys) place are (inr has) = let later = key_of_place Key places keys place are.1 has in (later.0, inr later.1, later.2)
+
+pub item_at : {A : Type 0} (Says : MessageContent → A → Type 0) (sent : List MessageContent) (places : List ℕ) (items : List A) (place : ℕ) → AreOf Says sent places items → HasEntry place places
+    → (m : MessageContent) × (item : A) × (slice_get sent place ≡ Some m) × Says m item
+item_at Says sent [] items place are has = absurd has
+item_at Says sent (first ∷ places) [] place are has = absurd are
+item_at Says sent (first ∷ places) (item ∷ items) place are (inl is) = (are.0.0, item, subst (λ p. slice_get sent p ≡ Some are.0.0) (sym is) are.0.1, are.0.2)
+item_at Says sent (first ∷ places) (item ∷ items) place are (inr has) = item_at Says sent places items place are.1 has
 
 -- Keys stand to one another as their places do.
 pub keys_stand : (Key : ℕ → ℕ → Type 0) (Stand Then : ℕ → ℕ → Type 0) → ((place other key more : ℕ) → Key place key → Key other more → Stand place other → Then key more) → (places keys : List ℕ) → AreKeys Key places keys

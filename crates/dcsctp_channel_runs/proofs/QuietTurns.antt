@@ -1,4 +1,5 @@
--- Turns of anything but a user's `send`, `send_many` and `get_next_message` send no message and read none.
+-- Turns of anything but a user's `send`, `send_many`, `reset_streams` and `get_next_message` send no message, reset
+-- no stream, and read nothing.
 use Rattle.std.proofs.Common.{◌≡◌, ℕ, Bool, true, false, List, [], ◌∷◌, ◌++◌, refl, sym, ap, subst, ◌∙◌}
 use Rattle.std.specs.Prelude.{nat_le, if◌then◌else◌}
 use Rattle.std.specs.List.{AllByRecursion}
@@ -14,24 +15,26 @@ use Rattle.dcsctp_channel_calls.specs.api.spec.endpoint.Turn.{Input, arrival, re
 use Rattle.dcsctp_channel_calls.specs.api.spec.association.Acts.{abort_with, flushes}
 use Rattle.dcsctp_channel_calls.specs.api.types.queues.Messages.{MessageContent}
 use Rattle.dcsctp_channel_calls.specs.api.spec.endpoint.HeartbeatOutcomes.{is_exhausted}
-use Rattle.dcsctp_delivery_sockets.specs.sockets.UserMessages.{messages_of_input, messages_of_turns, messages_read_of_input, read_of}
+use Rattle.dcsctp_delivery_sockets.specs.sockets.UserMessages.{messages_read_of_input, read_of}
+use Rattle.dcsctp_channel_runs.proofs.Deeds.{Deed, deeds_of_input, deeds_of_turns}
 
--- no message was sent, and none was read
+-- no message was sent, no stream reset, and none was read
 pub record AreQuiet (e : Endpoint) (turns : List Transition) : Type 0 where
-  pub sent : messages_of_turns e turns ≡ []
+  pub deeds : deeds_of_turns e turns ≡ []
   pub read : read_of e turns ≡ []
 
 -- ---- inputs
 
 abbrev IsQuiet : Input → Type 0
 IsQuiet (user_sends messages) = ⊥
+IsQuiet (user_resets ids) = ⊥
 IsQuiet user_takes = ⊥
 IsQuiet input = Unit {0}
 
 abbrev pub AllQuiet : List Input → Type 0
 AllQuiet inputs = AllByRecursion IsQuiet inputs
 
-quiet_input : (e : Endpoint) (input : Input) → IsQuiet input → (messages_of_input e input ≡ []) × (messages_read_of_input e input ≡ [])
+quiet_input : (e : Endpoint) (input : Input) → IsQuiet input → (deeds_of_input e input ≡ []) × (messages_read_of_input e input ≡ [])
 quiet_input e arrival quiet = (refl, refl)
 quiet_input e (refusal text) quiet = (refl, refl)
 quiet_input e (packet_begins contents) quiet = (refl, refl)
@@ -40,7 +43,7 @@ quiet_input e packet_ends quiet = (refl, refl)
 quiet_input e (act_input act) quiet = (refl, refl)
 quiet_input e (user_sets setting) quiet = (refl, refl)
 quiet_input e (user_sends messages) quiet = absurd quiet
-quiet_input e (user_resets ids) quiet = (refl, refl)
+quiet_input e (user_resets ids) quiet = absurd quiet
 quiet_input e user_takes quiet = absurd quiet
 quiet_input e (timer_expires timer) quiet = (refl, refl)
 quiet_input e (time_passes moment) quiet = (refl, refl)
@@ -49,13 +52,13 @@ quiet_input e (restores state) quiet = (refl, refl)
 -- ---- turns
 
 none_quiet : (e : Endpoint) (turns : List Transition) → turns ≡ [] → AreQuiet e turns
-none_quiet e turns none = subst (AreQuiet e) (sym none) (record { sent = refl; read = refl })
+none_quiet e turns none = subst (AreQuiet e) (sym none) (record { deeds = refl; read = refl })
 
 first_quiet : (e : Endpoint) (input : Input) (t : Transition) (turns : List Transition) → IsQuiet input → IsTurn e input t → AreQuiet t.outcome.after turns → AreQuiet e (t ∷ turns)
 first_quiet e input t turns quiet turn rest =
     let none = quiet_input e t.input (subst IsQuiet (sym turn.is) quiet) in
     record {
-      sent = ap (λ (l : List MessageContent). l ++ messages_of_turns t.outcome.after turns) none.0 ∙ rest.sent;
+      deeds = ap (λ (l : List Deed). l ++ deeds_of_turns t.outcome.after turns) none.0 ∙ rest.deeds;
       read = ap (λ (l : List MessageContent). l ++ read_of t.outcome.after turns) none.1 ∙ rest.read;
     }
 

@@ -12,6 +12,7 @@ use Rattle.dcsctp_channel_calls.specs.messages.channel_spec.Table.{outcome_of, r
 use Rattle.dcsctp_channel_calls.specs.View.{ChannelNotice, packet_out, association_made, of_channel, amount_low, association_over, LayerView, slot_numbered, row_taken}
 use Rattle.dcsctp_channel_runs.specs.Acts.{OpenedChannel, NamedContent, packets_given, channels_reported, messages_reported}
 use Rattle.dcsctp_channel_runs.proofs.Notices.{Tells}
+use Rattle.dcsctp_channel_runs.proofs.Lasting.{closing_slot}
 
 -- They tell nothing of the peer.
 abbrev pub IsSilent : List Report → Type 0
@@ -154,30 +155,32 @@ pub row_brings_channel : (name : ℕ) (opening : Opening) (slot : StreamSlot) �
 row_brings_channel name opening free = inr (refl, refl, refl)
 row_brings_channel name opening (used stream) = reopened stream.peer_reset stream.own name opening stream
 
--- a message on the channel of the stream, or none
-pub data BringsContent (content : ChannelContent) (name : Option ℕ) (reports : List Report) : Type 0 where
-  brings_none : IsSilent reports → BringsContent content name reports
-  brings_one : (on : ℕ) → name ≡ Some on → channels_reported (map of_channel reports) ≡ [] → messages_reported (map of_channel reports) ≡ record { name = on; content = content } ∷ [] → BringsContent content name reports
+-- a message on the channel of the stream, where it is open, or none
+pub data BringsContent (content : ChannelContent) (closing : Bool) (name : Option ℕ) (reports : List Report) : Type 0 where
+  brings_none : IsSilent reports → (name ≡ None) ⊎ (closing ≡ true) → BringsContent content closing name reports
+  brings_one : (on : ℕ) → name ≡ Some on → closing ≡ false → channels_reported (map of_channel reports) ≡ [] → messages_reported (map of_channel reports) ≡ record { name = on; content = content } ∷ []
+      → BringsContent content closing name reports
 
-content_there : (closing : Bool) (name : Option ℕ) (content : ChannelContent) → BringsContent content name (message_reports closing name content)
-content_there true name content = brings_none (refl, refl)
-content_there false None content = brings_none (refl, refl)
-content_there false (Some n) content = brings_one n refl refl refl
+content_there : (closing : Bool) (name : Option ℕ) (content : ChannelContent) → BringsContent content closing name (message_reports closing name content)
+content_there true name content = brings_none (refl, refl) (inr refl)
+content_there false None content = brings_none (refl, refl) (inl refl)
+content_there false (Some n) content = brings_one n refl refl refl refl
 
-opened_before : (opened_name name : Option ℕ) (content : ChannelContent) (more : List Report) → BringsContent content name more → BringsContent content name (reports_of opened_name opened ++ more)
-opened_before None name content more brings = brings
-opened_before (Some n) name content more (brings_none silent) = brings_none silent
-opened_before (Some n) name content more (brings_one on is none one) = brings_one on is none one
+opened_before : (opened_name name : Option ℕ) (closing : Bool) (content : ChannelContent) (more : List Report) → BringsContent content closing name more → BringsContent content closing name (reports_of opened_name opened ++ more)
+opened_before None name closing content more brings = brings
+opened_before (Some n) name closing content more (brings_none silent why) = brings_none silent why
+opened_before (Some n) name closing content more (brings_one on is is_open none one) = brings_one on is is_open none one
 
-content_heard : (heard closing : Bool) (stream : StreamUse) (name : Option ℕ) (content : ChannelContent) (more : List Report) → BringsContent content name more → BringsContent content name (heard_reports heard closing stream ++ more)
-content_heard false false stream name content more brings = opened_before stream.name name content more brings
-content_heard false true stream name content more brings = brings
-content_heard true closing stream name content more brings = brings
+content_heard : (heard closing : Bool) (stream : StreamUse) (name : Option ℕ) (shut : Bool) (content : ChannelContent) (more : List Report) → BringsContent content shut name more
+    → BringsContent content shut name (heard_reports heard closing stream ++ more)
+content_heard false false stream name shut content more brings = opened_before stream.name name shut content more brings
+content_heard false true stream name shut content more brings = brings
+content_heard true closing stream name shut content more brings = brings
 
-pub row_brings_content : (content : ChannelContent) (slot : StreamSlot) → BringsContent content (name_of_slot slot) (outcome_of (hears_message content) slot).reports
-row_brings_content content free = brings_none (refl, refl)
+pub row_brings_content : (content : ChannelContent) (slot : StreamSlot) → BringsContent content (closing_slot slot) (name_of_slot slot) (outcome_of (hears_message content) slot).reports
+row_brings_content content free = brings_none (refl, refl) (inl refl)
 row_brings_content content (used stream) =
-    content_heard stream.heard stream.closing stream stream.name content (message_reports stream.closing stream.name content) (content_there stream.closing stream.name content)
+    content_heard stream.heard stream.closing stream stream.name stream.closing content (message_reports stream.closing stream.name content) (content_there stream.closing stream.name content)
 
 -- ---- lists of notices
 

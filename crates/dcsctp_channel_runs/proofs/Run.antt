@@ -3,7 +3,7 @@ use Rattle.std.proofs.Common.{◌≡◌, ℕ, List, [], ◌∷◌, ◌++◌, ref
 use Rattle.std.proofs.lemmas.List.{append-nil}
 use Rattle.dcsctp_delivery_directions.specs.sending.Places.{HasEntry}
 use Rattle.dcsctp_delivery_sockets.specs.sockets.Delivery.{AreInMemory}
-use Rattle.dcsctp_delivery_sockets.specs.sockets.UserMessages.{messages_of_turns, read_of}
+use Rattle.dcsctp_delivery_sockets.specs.sockets.UserMessages.{read_of}
 use Rattle.dcsctp_spec_runs.specs.Laws.{SocketsKeepOptions}
 use Rattle.dcsctp_spec_runs.specs.Sockets.{Both, of_side, of_other, PerformedAct, SocketRun, turns_after, packets_shown, acts_of}
 use Rattle.dcsctp_channel_calls.specs.api.types.declared.options.Options.{Options}
@@ -25,9 +25,12 @@ use Rattle.dcsctp_channel_runs.proofs.Streams.{KeepStreams, keep_then, same_keep
 use Rattle.dcsctp_channel_runs.proofs.Moves.{Moves}
 use Rattle.dcsctp_channel_runs.proofs.Notices.{packets_left}
 use Rattle.dcsctp_channel_runs.proofs.Coming.{come_else}
-use Rattle.dcsctp_channel_runs.proofs.Paths.{turns_on, run_with, runs_on, packets_by, packets_by-append, after-append, sent-append, read-append}
+use Rattle.dcsctp_channel_runs.proofs.Paths.{turns_on, run_with, runs_on, packets_by, packets_by-append, after-append, read-append}
 use Rattle.dcsctp_channel_runs.proofs.Rows.{channels-append, messages-append, packets-append}
-use Rattle.dcsctp_channel_runs.proofs.Said.{Sent, none_sent, sent_then, Heard, none_heard, heard_then, Wait, Rise, rise_then, rise_with, wait_with, entry_before, entry_behind}
+use Rattle.dcsctp_channel_runs.proofs.Heard.{Heard, none_heard, heard_then, IsPassed, passed_before, passed_behind}
+use Rattle.dcsctp_channel_runs.proofs.Deeds.{Deed, deeds_of_turns, deeds-append}
+use Rattle.dcsctp_channel_runs.proofs.SentBy.{Sent, none_sent, sent_then}
+use Rattle.dcsctp_channel_runs.proofs.Said.{Wait, Rise, rise_then, rise_with, wait_with, entry_before, entry_behind}
 use Rattle.dcsctp_channel_runs.proofs.InPlace.{said_after, after_move, IsInPlace, in_place_later, all-append, said_in_place}
 
 -- ---- lists of acts
@@ -51,12 +54,12 @@ pub record EndIs (options : Options) (turns : List Transition) (acts : List EndA
   pub pairs : List (ℕ × ℕ)
   pub keeps : KeepStreams pairs start view.layer
   pub opens : List OpenedChannel
-  pub sent : Sent pairs (messages_of_turns (fresh_endpoint options) turns) opens said
+  pub sent : Sent pairs view.layer start (deeds_of_turns (fresh_endpoint options) turns) opens said
   pub in_place : AllByRecursion (IsInPlace pairs view.layer) said
   pub high : ℕ
   pub rises : Rise (channels_of acts) 0 opens high
   pub waits : Wait (channels_of acts) high view.layer.waiting view.layer.named
-  pub heard : Heard pairs (read_of (fresh_endpoint options) turns) (channels_reported (notices_of acts ++ view.layer.notices)) (messages_reported (notices_of acts ++ view.layer.notices))
+  pub heard : Heard pairs (IsPassed (fresh_endpoint options) turns) view.layer start (read_of (fresh_endpoint options) turns) (channels_reported (notices_of acts ++ view.layer.notices)) (messages_reported (notices_of acts ++ view.layer.notices))
   pub plain : packets_given view.layer.notices ≡ []
 
 end_begins : (options : Options) (view : ChannelsView) → IsNewEnd options view → EndIs options [] [] [] view
@@ -68,14 +71,15 @@ end_begins options view new =
       };
       start = view.layer;
       pairs = [];
-      keeps = same_keeps view.layer view.layer refl refl refl refl (begin_apart view.layer new.streams new.names new.waiting);
+      keeps = same_keeps view.layer view.layer refl refl refl refl (λ was. was) (begin_apart view.layer new.streams new.names new.waiting);
       opens = [];
-      sent = none_sent;
+      sent = none_sent view.layer (same_keeps view.layer view.layer refl refl refl refl (λ was. was) (begin_apart view.layer new.streams new.names new.waiting));
       in_place = tt;
       high = 0;
       rises = omega arith;
       waits = subst (λ (l : List WaitingChannel). Wait [] 0 l view.layer.named) (sym new.waiting) (omega arith);
-      heard = subst (λ (l : List ChannelNotice). Heard [] [] (channels_reported l) (messages_reported l)) (sym new.notices) none_heard;
+      heard = subst (λ (l : List ChannelNotice). Heard [] (IsPassed (fresh_endpoint options) []) view.layer view.layer [] (channels_reported l) (messages_reported l)) (sym new.notices)
+          (none_heard view.layer (same_keeps view.layer view.layer refl refl refl refl (λ was. was) (begin_apart view.layer new.streams new.names new.waiting)));
       plain = ap packets_given new.notices;
     }
 
@@ -125,10 +129,10 @@ module _ (keep : SocketsKeepOptions) (side : Side) (packets : List (List ℕ)) (
           pairs = pairs;
           keeps = kept;
           opens = is.opens ++ moves.steps.opens;
-          sent = subst (λ (l : List MessageContent). Sent pairs l (is.opens ++ moves.steps.opens) (said_before ++ said_contents act new.layer))
-              (ap (λ (f : Endpoint). messages_of_turns e turns ++ messages_of_turns f more) is.shows.endpoint ∙ sym (sent-append e turns more))
-              (sent_then is.pairs moves.steps.pairs (messages_of_turns e turns) (messages_of_turns old.below.endpoint more) is.opens moves.steps.opens said_before (said_contents act new.layer)
-              (λ name number has. said_after name number new.layer act (after_move moving name number (is.keeps.after name number has))) is.sent moves.steps.sent);
+          sent = subst (λ (l : List Deed). Sent pairs new.layer is.start l (is.opens ++ moves.steps.opens) (said_before ++ said_contents act new.layer))
+              (ap (λ (f : Endpoint). deeds_of_turns e turns ++ deeds_of_turns f more) is.shows.endpoint ∙ sym (deeds-append e turns more))
+              (sent_then is.pairs moves.steps.pairs is.start old.layer new.layer (deeds_of_turns e turns) (deeds_of_turns old.below.endpoint more) is.opens moves.steps.opens said_before (said_contents act new.layer)
+              (λ name number has. said_after name number new.layer act (after_move moving name number (is.keeps.after name number has))) is.sent (moves.steps.sent is.keeps.orderly));
           in_place = all-append (IsInPlace pairs new.layer) said_before (said_contents act new.layer) (in_place_later is.pairs moves.steps.pairs old.layer new.layer moving said_before is.in_place)
               (said_in_place pairs is.start new.layer kept act);
           high = moves.steps.high;
@@ -137,14 +141,15 @@ module _ (keep : SocketsKeepOptions) (side : Side) (packets : List (List ℕ)) (
               (rise_with (channels_of acts) (channels_of_act act) 0 is.opens is.high is.rises) moves.steps.rises);
           waits = subst (λ (l : List OpenedChannel). Wait l moves.steps.high new.layer.waiting new.layer.named) (sym all) moves.waits;
           heard =
-              subst (λ (l : List OpenedChannel). Heard pairs (read_of e (turns ++ more)) l (messages_reported (notices_of (acts ++ act ∷ []) ++ new.layer.notices)))
+              subst (λ (l : List OpenedChannel). Heard pairs (IsPassed e (turns ++ more)) new.layer is.start (read_of e (turns ++ more)) l (messages_reported (notices_of (acts ++ act ∷ []) ++ new.layer.notices)))
               (sym (told_more channels_reported channels-append moves.channels moves.tells.incoming))
-              (subst (λ (l : List NamedContent). Heard pairs (read_of e (turns ++ more)) (channels_reported (notices_of acts ++ old.layer.notices) ++ moves.channels) l)
+              (subst (λ (l : List NamedContent). Heard pairs (IsPassed e (turns ++ more)) new.layer is.start (read_of e (turns ++ more)) (channels_reported (notices_of acts ++ old.layer.notices) ++ moves.channels) l)
               (sym (told_more messages_reported messages-append moves.contents moves.tells.messages))
-              (subst (λ (l : List MessageContent). Heard pairs l (channels_reported (notices_of acts ++ old.layer.notices) ++ moves.channels) (messages_reported (notices_of acts ++ old.layer.notices) ++ moves.contents))
+              (subst (λ (l : List MessageContent). Heard pairs (IsPassed e (turns ++ more)) new.layer is.start l (channels_reported (notices_of acts ++ old.layer.notices) ++ moves.channels) (messages_reported (notices_of acts ++ old.layer.notices) ++ moves.contents))
               (ap (λ (f : Endpoint). read_of e turns ++ read_of f more) is.shows.endpoint ∙ sym (read-append e turns more))
-              (heard_then is.pairs moves.steps.pairs (read_of e turns) (read_of old.below.endpoint more) (channels_reported (notices_of acts ++ old.layer.notices)) moves.channels
+              (heard_then is.pairs moves.steps.pairs (IsPassed e turns) (IsPassed old.below.endpoint more) (IsPassed e (turns ++ more)) is.start old.layer new.layer (read_of e turns) (read_of old.below.endpoint more) (channels_reported (notices_of acts ++ old.layer.notices)) moves.channels
               (messages_reported (notices_of acts ++ old.layer.notices)) moves.contents
+              (passed_before e turns more) (λ f. passed_behind e old.below.endpoint turns more f is.shows.endpoint)
               (λ name number has. come_else old.layer name number (is.keeps.after name number has) moves.channels (moves.come is.keeps.orderly)) is.heard (moves.heard is.keeps.orderly))));
           plain = moves.tells.plain is.plain;
         }

@@ -56,3 +56,8 @@ pub said_on_it : (pairs : List (ℕ × ℕ)) (now : LayerView) (there number : �
     → one.message.name ≡ there
 said_on_it pairs now there number one place lasts on (inl had) = same_on_stream one.after place.orderly there one.message.name number had on
 said_on_it pairs now there number one place lasts on (inr gone) = absurd (lasts (closed_where_gone now there (place.keeps.gone there gone)))
+
+-- A channel that isn't closed has its stream.
+pub not_gone : (layer : LayerView) (name number : ℕ) → (channel_state layer name ≡ Closed → ⊥) → IsOnOrGone layer name number → IsOn layer name number
+not_gone layer name number lasts (inl on) = on
+not_gone layer name number lasts (inr gone) = absurd (lasts (closed_where_gone layer name gone))

@@ -5,6 +5,7 @@ use Rattle.dcsctp_channel_calls.specs.messages.channel_spec.declared.types.OwnRe
 use Rattle.dcsctp_channel_calls.specs.messages.channel_spec.declared.types.StreamUse.{StreamUse}
 use Rattle.dcsctp_channel_calls.specs.messages.channel_spec.Slots.{Opening, StreamSlot, free, used, name_of_slot, SlotOutcome, SlotInput, opens, agrees, hears_open, hears_ack, hears_message, hears_bad_message, may_acknowledge, is_closed, all_is_sent, cannot_reset, was_performed, was_refused, peer_resets, association_ends}
 use Rattle.dcsctp_channel_calls.specs.messages.channel_spec.Table.{outcome_of, settled_if_reset, reopens_if_reset, acknowledges_if_owed, resets_if_closing, gives_up_if_closing, after_performed, asks_again_or_gives_up, after_refused, most_refusals}
+use Rattle.dcsctp_channel_runs.proofs.Lasting.{IsNoOpenOf}
 
 -- ---- the channel of a stream, before and after a row
 
@@ -121,3 +122,21 @@ pub accepted_name : (name : ℕ) (opening : Opening) (slot : StreamSlot)
     → (name_of_slot (outcome_of (hears_open true name opening) slot).after ≡ Some name) ⊎ (name_of_slot (outcome_of (hears_open true name opening) slot).after ≡ name_of_slot slot)
 accepted_name name opening free = inl refl
 accepted_name name opening (used stream) = accepted_again stream.peer_reset stream.own name opening stream
+
+-- It isn't an OPEN that is accepted.
+pub opens_none : (input : SlotInput) (name : ℕ) → names_none input ≡ true → IsNoOpenOf name input
+opens_none (opens other opening) name none = tt
+opens_none (agrees other) name none = tt
+opens_none (hears_open true other opening) name none = absurd cc
+opens_none (hears_open false other opening) name none = tt
+opens_none hears_ack name none = tt
+opens_none (hears_message content) name none = tt
+opens_none hears_bad_message name none = tt
+opens_none may_acknowledge name none = tt
+opens_none is_closed name none = tt
+opens_none all_is_sent name none = tt
+opens_none cannot_reset name none = tt
+opens_none was_performed name none = tt
+opens_none was_refused name none = tt
+opens_none peer_resets name none = tt
+opens_none association_ends name none = tt

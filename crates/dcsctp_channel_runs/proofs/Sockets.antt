@@ -4,7 +4,7 @@ use Rattle.std.proofs.lemmas.List.{append-nil}
 use Rattle.dcsctp_spec_runs.specs.Laws.{SocketsKeepOptions}
 use Rattle.dcsctp_spec_runs.specs.Sockets.{PerformedAct}
 use Rattle.dcsctp_delivery_sockets.specs.sockets.Delivery.{FitsMessage, FitsCall}
-use Rattle.dcsctp_delivery_sockets.specs.sockets.UserMessages.{accepted_unless_refused, accepted_messages, messages_of_input, messages_of_turns, first_readable, messages_read_of_input, read_of}
+use Rattle.dcsctp_delivery_sockets.specs.sockets.UserMessages.{accepted_unless_refused, accepted_as, first_readable, messages_read_of_input, read_of}
 use Rattle.dcsctp_delivery_directions.specs.sending.Queueing.{SettingFits}
 use Rattle.dcsctp_channel_calls.specs.api.Calls.{UserView, user_event, MakesCall, NoAnswer, Sets, with_setting, Connects, ClosesSocket, ShutsDown}
 use Rattle.dcsctp_channel_calls.specs.api.Messages.{refusal_of_answer, IsSendAnswer, SendsMessage, ready_messages, IsFirstMessage, TakesNextMessage}
@@ -33,33 +33,43 @@ use Rattle.dcsctp_channel_calls.specs.api.spec.endpoint.Turn.{Input, act_input, 
 use Rattle.dcsctp_channel_calls.specs.api.spec.endpoint.UserTurns.{UserTurns}
 use Rattle.dcsctp_channel_calls.specs.api.spec.queues.Transfer.{Transfer}
 use Rattle.dcsctp_channel_calls.specs.Opening.{ReadiesStream, priority_of}
-use Rattle.dcsctp_channel_calls.specs.View.{ChannelsView}
+use Rattle.dcsctp_channel_calls.specs.View.{LayerView, ChannelsView}
+use Rattle.dcsctp_channel_laws.specs.Lives.{IsOrderly}
+use Rattle.dcsctp_channel_runs.proofs.Deeds.{Deed, sends, asks, deeds_of_input, deeds_of_turns}
+use Rattle.dcsctp_channel_runs.proofs.SentBy.{AreClosing, Sent, none_sent, an_ask}
 use Rattle.dcsctp_channel_runs.specs.Acts.{OpenedChannel, SaidContent}
-use Rattle.dcsctp_channel_runs.proofs.Moves.{Moves, moves_then, reads_then, StepsSocket, socket_steps, socket_moves}
+use Rattle.dcsctp_channel_runs.proofs.Moves.{Moves, moves_then, reads_then}
+use Rattle.dcsctp_channel_runs.proofs.SocketMoves.{StepsSocket, socket_steps, socket_moves}
 use Rattle.dcsctp_channel_runs.proofs.Notices.{Tells, tells_nothing}
 use Rattle.dcsctp_channel_runs.proofs.QuietTurns.{AreQuiet, turns_quiet, advance_quiet}
 use Rattle.dcsctp_channel_runs.proofs.Streams.{Keeping, same_keeps}
-use Rattle.dcsctp_channel_runs.proofs.Said.{Sent, none_sent, Wait, Rise, same_le}
+use Rattle.dcsctp_channel_runs.proofs.Said.{Wait, Rise, same_le}
 
 -- ---- what turns send and read
 
-sent_alone : (e : Endpoint) (sendings : List Sending) (turns : List Transition) → Turns e (user_sends sendings ∷ []) turns → (messages_of_turns e turns ≡ accepted_messages e sendings) × (read_of e turns ≡ [])
+sent_alone : (e : Endpoint) (sendings : List Sending) (turns : List Transition) → Turns e (user_sends sendings ∷ []) turns
+    → (deeds_of_turns e turns ≡ map sends (accepted_as (λ sending. sending) e sendings)) × (read_of e turns ≡ [])
 sent_alone e sendings [] taken = absurd taken
 sent_alone e sendings (t ∷ []) taken = (
-  ap (λ (i : Input). messages_of_input e i ++ []) taken.0.is ∙ append-nil (accepted_messages e sendings),
+  ap (λ (i : Input). deeds_of_input e i ++ []) taken.0.is ∙ append-nil (map sends (accepted_as (λ sending. sending) e sendings)),
   ap (λ (i : Input). messages_read_of_input e i ++ []) taken.0.is,
 )
 sent_alone e sendings (t ∷ next ∷ turns) taken = absurd taken.1
 
--- what an answer of `send` accepts
-abbrev pub accepted_if : Result (Unit {0}) SendError → MessageContent → List MessageContent
-accepted_if (Ok done) message = message ∷ []
-accepted_if (Err refusal) message = []
+reset_alone : (e : Endpoint) (ids : List ℕ) (turns : List Transition) → Turns e (user_resets ids ∷ []) turns → (deeds_of_turns e turns ≡ asks ids ∷ []) × (read_of e turns ≡ [])
+reset_alone e ids [] taken = absurd taken
+reset_alone e ids (t ∷ []) taken = (ap (λ (i : Input). deeds_of_input e i ++ []) taken.0.is, ap (λ (i : Input). messages_read_of_input e i ++ []) taken.0.is)
+reset_alone e ids (t ∷ next ∷ turns) taken = absurd taken.1
 
-accepted_is : (answer : Result (Unit {0}) SendError) (refusal : Option MessageRefusal) (message : MessageContent) → refusal_of_answer answer ≡ refusal
-    → accepted_unless_refused refusal message [] ≡ accepted_if answer message
-accepted_is (Ok done) refusal message is = ap (λ (r : Option MessageRefusal). accepted_unless_refused r message []) (sym is)
-accepted_is (Err error) refusal message is = ap (λ (r : Option MessageRefusal). accepted_unless_refused r message []) (sym is)
+-- what an answer of `send` accepts
+abbrev pub accepted_if : Result (Unit {0}) SendError → Sending → List Deed
+accepted_if (Ok done) one = sends one ∷ []
+accepted_if (Err refusal) one = []
+
+accepted_is : (answer : Result (Unit {0}) SendError) (refusal : Option MessageRefusal) (one : Sending) → refusal_of_answer answer ≡ refusal
+    → map sends (accepted_unless_refused refusal one []) ≡ accepted_if answer one
+accepted_is (Ok done) refusal one is = ap (λ (r : Option MessageRefusal). map sends (accepted_unless_refused r one [])) (sym is)
+accepted_is (Err error) refusal one is = ap (λ (r : Option MessageRefusal). map sends (accepted_unless_refused r one [])) (sym is)
 
 -- ---- a message is taken
 
@@ -90,6 +100,10 @@ first_is : (ready : List MessageContent) (taken : Option Message) → IsFirstMes
 first_is ready None is = ap first_readable is
 first_is ready (Some message) is = ap first_readable is.1
 
+-- nothing is sent
+pub sends_nothing : (deeds : List Deed) (old new : LayerView) → deeds ≡ [] → Keeping [] old new → IsOrderly old → Sent [] new old deeds [] []
+sends_nothing deeds old new none keeping orderly = subst (λ (l : List Deed). Sent [] new old l [] []) (sym none) (none_sent old (keeping orderly))
+
 module _ (keep : SocketsKeepOptions) (side : Side) (packets : List (List ℕ)) (all : List OpenedChannel) where
   -- a call of the socket's user here
   abbrev called : CallContent → List Transition → PerformedAct
@@ -109,8 +123,8 @@ module _ (keep : SocketsKeepOptions) (side : Side) (packets : List (List ℕ)) (
   quiet_moves : (low : ℕ) (worked : PerformedAct) (old : ChannelsView) (below : UserView) → StepsSocket keep side packets all worked old.below below
       → AreQuiet old.below.endpoint worked.turns → Wait all low old.layer.waiting old.layer.named → Moves keep side packets all [] low [] old [] (record old { below = below })
   quiet_moves low worked old below made quiet waits =
-      socket_moves keep side packets all low low worked [] [] [] old (record old { below = below }) made (same_keeps old.layer old.layer refl refl refl refl) refl
-      (subst (λ (l : List MessageContent). Sent [] l [] []) (sym quiet.sent) none_sent) (same_le low) quiet.read waits (tells_nothing old.layer.notices)
+      socket_moves keep side packets all low low worked [] [] [] old (record old { below = below }) made (same_keeps old.layer old.layer refl refl refl refl (λ was. was)) refl
+      (sends_nothing (deeds_of_turns old.below.endpoint worked.turns) old.layer old.layer quiet.deeds (same_keeps old.layer old.layer refl refl refl refl (λ was. was))) (same_le low) quiet.read waits (tells_nothing old.layer.notices)
 
   pub connect_moves : (low : ℕ) (old : ChannelsView) (below : UserView) → Connects old.below (Ok tt) below → Wait all low old.layer.waiting old.layer.named
       → Moves keep side packets all [] low [] old [] (record old { below = below })
@@ -137,10 +151,14 @@ module _ (keep : SocketsKeepOptions) (side : Side) (packets : List (List ℕ)) (
       (advance_quiet old.below.endpoint moment made.turns made.are) waits
 
   pub reset_moves : (low number : ℕ) (old : ChannelsView) (answer : Result (Unit {0}) ResetStreamsError) (below : UserView) → number < 2 ^ 16 → ResetsOwn (number ∷ []) old.below (Ok answer) below
-      → Wait all low old.layer.waiting old.layer.named → Moves keep side packets all [] low [] old [] (record old { below = below })
-  reset_moves low number old answer below fits made waits =
-      quiet_moves low (called (reset_call (number ∷ [])) made.turns) old below (made_by (IsResetAnswer old.below.endpoint) (reset_call (number ∷ [])) old.below below answer (fits, tt) made)
-      (turns_quiet old.below.endpoint (user_resets (number ∷ []) ∷ []) made.turns (tt, tt) made.are) waits
+      → AreClosing (number ∷ []) old.layer → Wait all low old.layer.waiting old.layer.named → Moves keep side packets all [] low [] old [] (record old { below = below })
+  reset_moves low number old answer below fits made closing waits =
+      let alone = reset_alone old.below.endpoint (number ∷ []) made.turns made.are in
+      let same : Keeping [] old.layer old.layer = same_keeps old.layer old.layer refl refl refl refl (λ was. was) in
+      socket_moves keep side packets all low low (called (reset_call (number ∷ [])) made.turns) [] [] [] old (record old { below = below })
+      (made_by (IsResetAnswer old.below.endpoint) (reset_call (number ∷ [])) old.below below answer (fits, tt) made) same refl
+      (λ orderly. subst (λ (l : List Deed). Sent [] old.layer old.layer l [] []) (sym alone.0)
+      (an_ask old.layer old.layer (number ∷ []) [] [] [] (same orderly) closing (none_sent old.layer (same orderly)))) (same_le low) alone.1 waits (tells_nothing old.layer.notices)
 
   set_turns : Setting → UserView → List Transition
   set_turns setting old = transition (user_sets setting) (setting_outcome old.endpoint setting) ∷ []
@@ -156,7 +174,7 @@ module _ (keep : SocketsKeepOptions) (side : Side) (packets : List (List ℕ)) (
 
   set_quiet : (setting : Setting) (old : UserView) → AreQuiet old.endpoint (set_turns setting old)
   unfolding set_turns
-  set_quiet setting old = record { sent = refl; read = refl }
+  set_quiet setting old = record { deeds = refl; read = refl }
 
   pub set_moves : (low : ℕ) (setting : Setting) (old : ChannelsView) (below : UserView) → SettingFits setting → Sets setting old.below (Ok tt) below → Wait all low old.layer.waiting old.layer.named
       → Moves keep side packets all [] low [] old [] (record old { below = below })
@@ -177,16 +195,16 @@ module _ (keep : SocketsKeepOptions) (side : Side) (packets : List (List ℕ)) (
   -- the layer may change with it
   pub send_moves : (low high : ℕ) (message : MessageContent) (how : SendOptions) (opens : List OpenedChannel) (says : List SaidContent) (pairs : List (ℕ × ℕ)) (old new : ChannelsView)
       (answer : Result (Unit {0}) SendError) → FitsMessage message → Keeping pairs old.layer new.layer → SendsMessage message how old.below (Ok answer) new.below
-      → Sent pairs (accepted_if answer message) opens says → Rise all low opens high → new.layer.packets ≡ old.layer.packets → Wait all high new.layer.waiting new.layer.named
+      → (IsOrderly old.layer → Sent pairs new.layer old.layer (accepted_if answer (sending_of how message)) opens says) → Rise all low opens high → new.layer.packets ≡ old.layer.packets → Wait all high new.layer.waiting new.layer.named
       → Tells [] [] [] old.layer.notices new.layer.notices → Moves keep side packets all [] low says old [] new
   send_moves low high message how opens says pairs old new answer fits keeping made sent rises left waits tells =
       let e : Endpoint = old.below.endpoint in
       let alone = sent_alone e (sending_of how message ∷ []) made.turns made.are in
-      let accepted : messages_of_turns e made.turns ≡ accepted_if answer message =
-      alone.0 ∙ accepted_is answer (message_refusal e message.stream (length message.payload)) message made.answers in
+      let accepted : deeds_of_turns e made.turns ≡ accepted_if answer (sending_of how message) =
+      alone.0 ∙ accepted_is answer (message_refusal e message.stream (length message.payload)) (sending_of how message) made.answers in
       socket_moves keep side packets all low high (called (send_call message how) made.turns) opens says pairs old new
       (made_by (IsSendAnswer e message) (send_call message how) old.below new.below answer fits made) keeping left
-      (subst (λ (l : List MessageContent). Sent pairs l opens says) (sym accepted) sent) rises alone.1 waits tells
+      (λ orderly. subst (λ (l : List Deed). Sent pairs new.layer old.layer l opens says) (sym accepted) (sent orderly)) rises alone.1 waits tells
 
   -- ---- a message is taken
 
@@ -206,7 +224,7 @@ module _ (keep : SocketsKeepOptions) (side : Side) (packets : List (List ℕ)) (
             ∙ sym (ap (λ (l : List (Event Emission)). old.events ++ map (user_event (ports_of old.endpoint.options)) l) none ∙ append-nil old.events);
       }
 
-  take_sends : (e : Endpoint) (o : Outcome) → messages_of_turns e (take_turns o) ≡ []
+  take_sends : (e : Endpoint) (o : Outcome) → deeds_of_turns e (take_turns o) ≡ []
   unfolding take_turns
   take_sends e o = refl
 
@@ -221,5 +239,5 @@ module _ (keep : SocketsKeepOptions) (side : Side) (packets : List (List ℕ)) (
       let worked : PerformedAct = called take_call (take_turns takes.outcome) in
       reads_then keep side packets all low a b (message_content taken ∷ []) c
       (socket_steps keep side packets all low low worked [] [] [] a b (take_called a.below taken b.below takes) keeping left
-      (subst (λ (l : List MessageContent). Sent [] l [] []) (sym (take_sends a.below.endpoint takes.outcome)) none_sent) (same_le low))
+      (sends_nothing (deeds_of_turns a.below.endpoint (take_turns takes.outcome)) a.layer b.layer (take_sends a.below.endpoint takes.outcome) keeping) (same_le low))
       (take_reads a.below taken b.below takes) same rest

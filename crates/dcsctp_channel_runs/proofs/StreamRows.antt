@@ -7,6 +7,7 @@ use Rattle.dcsctp_channel_calls.specs.View.{ChannelNotice, LayerView, entry_numb
 use Rattle.dcsctp_channel_laws.specs.Lives.{IsOrderly}
 use Rattle.dcsctp_channel_laws.proofs.Places.{is_named, IsFresh, IsNext, RowLeaves, row_apart}
 use Rattle.dcsctp_channel_laws.proofs.Telling.{next_no_stream, next_fresh}
+use Rattle.dcsctp_channel_runs.proofs.Lasting.{GoesOn}
 use Rattle.dcsctp_channel_runs.proofs.Streams.{IsOn, IsGone, IsOnOrGone, KeepStreams, keep_plainly, same_stream, on_not_gone, IsToCome}
 
 -- ---- a row
@@ -20,7 +21,8 @@ stay_named layer before after (inl same) n is = inl (sym same ∙ is)
 stay_named layer before after (inr none) n is = let both : None ≡ Some n = sym none ∙ is in absurd cc
 
 module _ (number : ℕ) (slot : StreamSlot) (layer : LayerView) (streams : List (ℕ × HeldStream)) (names : List (ℕ × ℕ)) (most : ℕ) (notices : List ChannelNotice) (a : IsOrderly layer) (le : layer.named ≤ most)
-    (row : RowLeaves number slot layer streams names) (next : IsNextName layer most (name_of_slot (slot_numbered layer number)) (name_of_slot slot)) where
+    (row : RowLeaves number slot layer streams names) (next : IsNextName layer most (name_of_slot (slot_numbered layer number)) (name_of_slot slot))
+    (lasts : (n k : ℕ) → IsOn layer n k → entry_numbered n names ≡ Some k → GoesOn layer (record layer { streams = streams; names = names; named = most; notices = notices }) k) where
   abbrev left : LayerView
   left = record layer { streams = streams; names = names; named = most; notices = notices }
 
@@ -68,7 +70,7 @@ module _ (number : ℕ) (slot : StreamSlot) (layer : LayerView) (streams : List 
       by (inr not_after) = row.other n not_before not_after ∙ gone.no_stream
 
   pub row_keeps : KeepStreams [] layer left
-  row_keeps = keep_plainly layer left (row_apart number slot layer streams names most a le row row_next) row_stays row_gone
+  row_keeps = keep_plainly layer left (row_apart number slot layer streams names most a le row row_next) row_stays row_gone lasts (λ was. was)
 
 -- the channel that is named next
 pub next_to_come : (layer : LayerView) → IsOrderly layer → IsToCome layer layer.named

@@ -1,10 +1,11 @@
 -- Each channel has one stream, from when it gets it until it is over.
-use Rattle.std.proofs.Common.{◌≡◌, ◌<◌, ◌⊎◌, ℕ, false, Option, Some, None, List, [], ◌∷◌, ◌++◌, refl, sym, ap, subst, ◌∙◌, inl, inr}
+use Rattle.std.proofs.Common.{◌≡◌, ◌<◌, ◌⊎◌, ℕ, true, false, Option, Some, None, List, [], ◌∷◌, ◌++◌, refl, sym, ap, subst, ◌∙◌, inl, inr}
 use Rattle.dcsctp_delivery_directions.specs.sending.Places.{HasEntry}
 use Rattle.dcsctp_channel_calls.specs.declared.channel.HeldStream.{HeldStream}
 use Rattle.dcsctp_channel_calls.specs.Queries.{is_waiting}
 use Rattle.dcsctp_channel_calls.specs.View.{WaitingChannel, LayerView, entry_numbered}
 use Rattle.dcsctp_channel_laws.specs.Lives.{IsInOrder, IsOrderly}
+use Rattle.dcsctp_channel_runs.proofs.Lasting.{GoesOn, goes_on_same}
 
 -- ---- where a channel is
 
@@ -34,6 +35,8 @@ pub record KeepStreams (pairs : List (ℕ × ℕ)) (old new : LayerView) : Type 
   pub after : (name number : ℕ) → HasEntry (name, number) pairs → IsOnOrGone new name number
   pub before : (name number : ℕ) → HasEntry (name, number) pairs → IsOn old name number ⊎ IsToCome old name
   pub one : (name number other : ℕ) → HasEntry (name, number) pairs → HasEntry (name, other) pairs → number ≡ other
+  pub lasts : (name number : ℕ) → IsOn old name number → IsOn new name number → GoesOn old new number
+  pub over : old.over ≡ true → new.over ≡ true
 
 abbrev pub Keeping : List (ℕ × ℕ) → LayerView → LayerView → Type 0
 Keeping pairs old new = IsOrderly old → KeepStreams pairs old new
@@ -46,7 +49,7 @@ same_stream layer name number other first second = let both : Some number ≡ So
 pub on_not_gone : (layer : LayerView) (name number : ℕ) → IsOn layer name number → IsGone layer name → ⊥
 on_not_gone layer name number on gone = let both : Some number ≡ None = sym on ∙ gone.no_stream in absurd cc
 
-on_not_to_come : (layer : LayerView) (name number : ℕ) → IsOn layer name number → IsToCome layer name → ⊥
+pub on_not_to_come : (layer : LayerView) (name number : ℕ) → IsOn layer name number → IsToCome layer name → ⊥
 on_not_to_come layer name number on later = let both : Some number ≡ None = sym on ∙ later.no_stream in absurd cc
 
 -- What had a stream or was to come between had it or was to come before.
@@ -102,6 +105,13 @@ module _ (ps qs : List (ℕ × ℕ)) (a b c : LayerView) (first : KeepStreams ps
   one_of_both name number other (inr here) (inl there) = sym (meet name other number (first.after name other there) (second.before name number here))
   one_of_both name number other (inr here) (inr there) = second.one name number other here there
 
+  lasts_both : (name number : ℕ) → IsOnOrGone b name number → IsOn a name number → IsOn c name number → GoesOn a c number
+  lasts_both name number (inl on) before now =
+      let one = first.lasts name number before on in
+      let other = second.lasts name number on now in
+      record { delivery = other.delivery ∙ one.delivery; closing = λ was. other.closing (one.closing was) }
+  lasts_both name number (inr gone) before now = absurd (on_not_gone c name number now (second.gone name gone))
+
   pub keep_then : KeepStreams (ps ++ qs) a c
   keep_then =
       record {
@@ -111,22 +121,34 @@ module _ (ps qs : List (ℕ × ℕ)) (a b c : LayerView) (first : KeepStreams ps
         after = λ name number has. after_both name number (entry_in (name, number) ps qs has);
         before = λ name number has. before_both name number (entry_in (name, number) ps qs has);
         one = λ name number other here there. one_of_both name number other (entry_in (name, number) ps qs here) (entry_in (name, other) ps qs there);
+        lasts = λ name number before now. lasts_both name number (first.stays name number before) before now;
+        over = λ was. second.over (first.over was);
       }
 
 pub keeping_then : (ps qs : List (ℕ × ℕ)) (a b c : LayerView) → Keeping ps a b → Keeping qs b c → Keeping (ps ++ qs) a c
 keeping_then ps qs a b c first second orderly = keep_then ps qs a b c (first orderly) (second (first orderly).orderly)
 
 -- each channel keeps its stream, and none is noted
-pub keep_plainly : (old new : LayerView) → IsOrderly new → ((name number : ℕ) → IsOn old name number → IsOnOrGone new name number) → ((name : ℕ) → IsGone old name → IsGone new name) → KeepStreams [] old new
-keep_plainly old new orderly stays gone =
-    record { orderly = orderly; stays = stays; gone = gone; after = λ name number has. absurd has; before = λ name number has. absurd has; one = λ name number other has. absurd has }
+pub keep_plainly : (old new : LayerView) → IsOrderly new → ((name number : ℕ) → IsOn old name number → IsOnOrGone new name number) → ((name : ℕ) → IsGone old name → IsGone new name)
+    → ((name number : ℕ) → IsOn old name number → IsOn new name number → GoesOn old new number) → (old.over ≡ true → new.over ≡ true) → KeepStreams [] old new
+keep_plainly old new orderly stays gone lasts over =
+    record {
+      orderly = orderly;
+      stays = stays;
+      gone = gone;
+      after = λ name number has. absurd has;
+      before = λ name number has. absurd has;
+      one = λ name number other has. absurd has;
+      lasts = lasts;
+      over = over;
+    }
 
 -- where a channel was, that has this stream at some time
 abbrev pub IsPlaced : LayerView → ℕ → ℕ → Type 0
 IsPlaced layer name number = IsOnOrGone layer name number ⊎ IsToCome layer name
 
 pub keep_plain : {pairs : List (ℕ × ℕ)} {old new : LayerView} → KeepStreams pairs old new → KeepStreams [] old new
-keep_plain {old = old} {new = new} keeps = keep_plainly old new keeps.orderly keeps.stays keeps.gone
+keep_plain {old = old} {new = new} keeps = keep_plainly old new keeps.orderly keeps.stays keeps.gone keeps.lasts keeps.over
 
 -- Channels that have their streams later were there, or were to come.
 pub placed_later : (ps qs : List (ℕ × ℕ)) (first now : LayerView) → KeepStreams [] first now → ((name number : ℕ) → HasEntry (name, number) qs → IsOn now name number ⊎ IsToCome now name)
@@ -144,8 +166,8 @@ placed_later ps qs first now keeps before placed name number has = by (entry_in 
 -- ---- nothing is noted between
 
 -- All is as before, as far as channels and streams go.
-pub same_keeps : (old new : LayerView) → new.streams ≡ old.streams → new.names ≡ old.names → new.waiting ≡ old.waiting → new.named ≡ old.named → Keeping [] old new
-same_keeps old new streams names waiting named orderly =
+pub same_keeps : (old new : LayerView) → new.streams ≡ old.streams → new.names ≡ old.names → new.waiting ≡ old.waiting → new.named ≡ old.named → (old.over ≡ true → new.over ≡ true) → Keeping [] old new
+same_keeps old new streams names waiting named over orderly =
     keep_plainly old new
     (subst (λ (s : List (ℕ × HeldStream)). IsInOrder s new.names new.waiting new.named) (sym streams)
     (subst (λ (n : List (ℕ × ℕ)). IsInOrder old.streams n new.waiting new.named) (sym names)
@@ -157,6 +179,7 @@ same_keeps old new streams names waiting named orderly =
       not_waiting = ap (is_waiting name) waiting ∙ gone.not_waiting;
       named = subst (λ (n : ℕ). name < n) (sym named) gone.named;
     })
+    (λ name number before now. goes_on_same old new number (ap (entry_numbered number) streams)) over
 
 -- ---- one channel is noted
 
@@ -173,6 +196,8 @@ note name number old new there here keeps =
       after = λ n k has. let is = noted_is name number n k has in subst (λ (m : ℕ). IsOnOrGone new m k) (sym is.0) (subst (λ (m : ℕ). IsOnOrGone new name m) (sym is.1) there);
       before = λ n k has. let is = noted_is name number n k has in subst (λ (m : ℕ). IsOn old m k ⊎ IsToCome old m) (sym is.0) (subst (λ (m : ℕ). IsOn old name m ⊎ IsToCome old name) (sym is.1) here);
       one = λ n k other first second. (noted_is name number n k first).1 ∙ sym (noted_is name number n other second).1;
+      lasts = keeps.lasts;
+      over = keeps.over;
     }
 
 -- It had its stream before,

@@ -93,15 +93,15 @@ pub record IsOneChannel (Stand : ℕ → ℕ → Type 0) (ours theirs : EndSoFar
 
 -- Each of the channels that came in is one that was opened under this name at the other end, with the same label, protocol and
 -- rules.
-abbrev pub HaveOpeners : (ℕ → ℕ → Type 0) → List OpenedChannel → List ℕ → List OpenedChannel → Type 0
+abbrev pub HaveOpeners : (OpenedChannel → ℕ → Type 0) → List OpenedChannel → List ℕ → List OpenedChannel → Type 0
 HaveOpeners IsOne opened [] [] = Unit {0}
 HaveOpeners IsOne opened [] (channel ∷ incoming) = ⊥
 HaveOpeners IsOne opened (name ∷ names) [] = ⊥
 HaveOpeners IsOne opened (name ∷ names) (channel ∷ incoming) =
-    HasEntry (record { name = name; opening = channel.opening }) opened × IsOne channel.name name × HaveOpeners IsOne opened names incoming
+    HasEntry (record { name = name; opening = channel.opening }) opened × IsOne channel name × HaveOpeners IsOne opened names incoming
 
 -- Each was opened, and no two of them are one at the other end.
-pub record WereOpened (IsOne : ℕ → ℕ → Type 0) (opened incoming : List OpenedChannel) : Type 0 where
+pub record WereOpened (IsOne : OpenedChannel → ℕ → Type 0) (opened incoming : List OpenedChannel) : Type 0 where
   pub names : List ℕ
   pub openers : HaveOpeners IsOne opened names incoming
   pub once : AreDistinct names
@@ -119,7 +119,7 @@ so_far run views =
 -- what is sent on it, each message once. What is read on channels, also on those that were agreed on, was sent on channels by the
 -- other user, once.
 pub record HearsOther (ours theirs : EndSoFar) : Type 0 where
-  pub incoming : WereOpened (IsOneChannel IsSaidApart ours theirs) (channels_of theirs.acts) (channels_reported (notices_of ours.acts))
+  pub incoming : WereOpened (λ channel there. IsOneChannel IsSaidApart ours theirs channel.name there) (channels_of theirs.acts) (channels_reported (notices_of ours.acts))
   pub contents : WereHeard IsSaidApart HasContent theirs.said (contents_named (messages_reported (notices_of ours.acts)))
 
 -- What a channel carries is read in order, each way. And while the channel isn't closed at the end that opened it, what the other end
@@ -130,4 +130,4 @@ pub record IsReadInOrder (ours theirs : EndSoFar) (here there : ℕ) : Type 0 wh
 
 -- So it is of the channels that come in.
 abbrev pub AreReadInOrder : EndSoFar → EndSoFar → Type 0
-AreReadInOrder ours theirs = WereOpened (IsReadInOrder ours theirs) (channels_of theirs.acts) (channels_reported (notices_of ours.acts))
+AreReadInOrder ours theirs = WereOpened (λ channel there. IsReadInOrder ours theirs channel.name there) (channels_of theirs.acts) (channels_reported (notices_of ours.acts))

@@ -24,6 +24,13 @@ use dcsctp_spec_runs::sockets_keep_options;
 /// with interleaving, streams may be reset), no message is sent unordered, and all is read in one association. Then the
 /// other end has read on a channel nothing but what was sent on it, while the channel isn't closed at the end that opened
 /// it, whatever channels its stream had before.
+///
+/// - `hands_on`: an end drops nothing that it reads for an open channel. What it has reported on a channel of the peer is
+///   each message of a user that it has read on the stream since the channel's OPEN.
+/// - `by_rules`: on an ordered channel what was sent on it is read in order, also where other channels are unordered, if
+///   none that had its stream before is.
+/// - `whole`: if that channel is reliable, too, messages interleave, and the sender had one own tag, what is read on it is
+///   a prefix of what was sent on it. The reading socket must have known the stream whenever it had an association.
 pub fn channels_run_sockets()
     ensures { ChannelsRunSockets }
 {

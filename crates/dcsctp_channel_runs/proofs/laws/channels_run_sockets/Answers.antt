@@ -1,4 +1,4 @@
-use Rattle.dcsctp_channel_runs.proofs.Told.{channels_run}
+use Rattle.dcsctp_channel_runs.proofs.Promised.{channels_run}
 use Rattle.dcsctp_channel_runs.proofs.laws.channels_run_sockets.Goals as goal
 
 pub returns : goal.returns
