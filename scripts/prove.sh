@@ -1,7 +1,7 @@
 #!/usr/bin/env bash
 # Proves all: `rt ci` checks each crate and its tests, tries each wrong body of must-fail/, and runs the tests and
 # programs. Then builds the archive of the C library over what that left. Prints a line a crate; the whole log is
-# out/prove.log, which begins with the commit. docs/proof/promises.md says what the words of a verdict mean.
+# out/prove.log, which begins with the commit. docs/proof/reading.md says what the words of a verdict mean.
 #
 #     scripts/prove.sh          KIT names the kit's folder
 set -euo pipefail
